@@ -1,0 +1,89 @@
+-- Document 01, "Cases": the cases marked C, in one table, and the one theorem that the walk gives each.
+use Prim.Native.Nat.{ℕ}
+use mathlib.Core.Path.{_≡_, refl}
+use mathlib.Core.Bool.{Bool, true, false, _&&_}
+use mathlib.Core.List.{List, [], _∷_, _++_}
+use lib.ListN.{length, drop}
+use lib.Dec.{eqb}
+use Rattle.rules.specs.declared.Answer.{Answer}
+use Rattle.rules.specs.declared.Base.the-variants.{Unset}
+use Rattle.rules.specs.Windows.{Capture}
+use Rattle.rules.specs.Walk.{Run, walk, answerOf}
+use Rattle.rules.specs.Records.{writtenOf, roomOf}
+use Rattle.rules.specs.Book.{book}
+
+-- a case: its number, the batch, what the record buffer held, the answer, and the records
+pub record Case : Type 0 where
+  pub number : ℕ
+  pub batch : List ℕ
+  pub before : List ℕ
+  pub reason : ℕ
+  pub window : ℕ
+  pub index : ℕ
+  pub count : ℕ
+  pub records : List ℕ
+
+-- "Batch at 100000h, state at 200000h, scratch 300000h with 4,096 bytes"; no case depends on the state's dwords, so it has none
+abbrev pub captureOf : List ℕ → Capture
+captureOf batch =
+    record { batch = batch; batchAt = 0x100000; state = []; stateAt = 0x200000; scratchAt = 0x300000; scratchBytes = 4096 }
+
+-- "ample room": eight words, each unlike any record and unlike the others, so that a word that should stay is seen to
+abbrev pub ample : List ℕ
+ample = 0xEEEEE001 ∷ 0xEEEEE002 ∷ 0xEEEEE003 ∷ 0xEEEEE004 ∷ 0xEEEEE005 ∷ 0xEEEEE006 ∷ 0xEEEEE007 ∷ 0xEEEEE008 ∷ []
+
+-- "room 4"
+abbrev pub four : List ℕ
+four = 0xEEEEE001 ∷ 0xEEEEE002 ∷ 0xEEEEE003 ∷ 0xEEEEE004 ∷ []
+
+abbrev case : ℕ → List ℕ → List ℕ → ℕ → ℕ → ℕ → List ℕ → Case
+case number batch before reason index count records =
+    record { number = number; batch = batch; before = before; reason = reason; window = 0; index = index; count = count; records = records }
+
+-- the table; every case has its place in window 0
+unfoldable pub cases : List Case
+cases =
+    case 1 [] ample 1 0 0 []
+    ∷ case 2 (0x05000000 ∷ []) ample 0 0 1 (0x01010000 ∷ [])
+    ∷ case 3 (0x00000000 ∷ []) ample 6 1 1 (0x00010000 ∷ [])
+    ∷ case 4 (0x05000001 ∷ []) ample 10 0 0 []
+    ∷ case 5 (0x40000000 ∷ []) ample 7 0 0 []
+    ∷ case 6 (0x18800101 ∷ 0x00100000 ∷ 0 ∷ []) four 18 0 4 (0x02030000 ∷ 0x02030000 ∷ 0x02030000 ∷ 0x02030000 ∷ [])
+    ∷ case 7 (0x18C00101 ∷ 0x00100010 ∷ 0 ∷ 0x05000000 ∷ 0x05000000 ∷ []) ample 0 0 3 (0x02030000 ∷ 0x01011004 ∷ 0x01010003 ∷ [])
+    ∷ case 8 (0x10000002 ∷ 0x00300FFC ∷ 0 ∷ 0 ∷ 0x05000000 ∷ []) ample 0 0 2 (0x04040000 ∷ 0x01010004 ∷ [])
+    ∷ case 9 (0x00000000 ∷ 0x10000002 ∷ 0x00301000 ∷ 0 ∷ 0 ∷ 0x05000000 ∷ []) ample 13 2 1 (0x00010000 ∷ [])
+    ∷ case 10 (0x10200003 ∷ 0x00300FFC ∷ 0 ∷ 0 ∷ 0 ∷ []) ample 12 1 0 []
+    ∷ case 11 (0x78230000 ∷ 0 ∷ []) ample 14 1 0 []
+    ∷ case 12 (0x7B000405 ∷ 0x00000200 ∷ 0 ∷ 0 ∷ 0 ∷ 0 ∷ 0 ∷ []) ample 12 1 0 []
+    ∷ []
+
+-- two lists of words are the same, to the last word
+abbrev pub sameWords : List ℕ → List ℕ → Bool
+sameWords [] [] = true
+sameWords [] (y ∷ ys) = false
+sameWords (x ∷ xs) [] = false
+sameWords (x ∷ xs) (y ∷ ys) = eqb x y && sameWords xs ys
+
+abbrev pub sameAnswer : Answer → Case → Bool
+sameAnswer a k = (eqb (a .reason) (k .reason) && eqb (a .window) (k .window)) && (eqb (a .index) (k .index) && eqb (a .count) (k .count))
+
+-- the walk gives the case: its answer, its records, and the untouched rest
+abbrev pub gives : Run → Case → Bool
+gives run k = sameAnswer (answerOf run) k && sameWords (writtenOf run (k .before)) (k .records ++ drop (k .count) (k .before))
+
+abbrev pub runOf : Case → Run
+runOf k = walk Unset (captureOf (k .batch)) (roomOf (length (k .before)))
+
+abbrev pub namedIf : Bool → ℕ → List ℕ → List ℕ
+namedIf true number rest = rest
+namedIf false number rest = number ∷ rest
+
+-- the numbers of the cases that the walk does not give
+abbrev pub failing : List Case → List ℕ
+failing [] = []
+failing (k ∷ ks) = namedIf (gives (runOf k) k) (k .number) (failing ks)
+
+-- C1 to C12 hold
+pub cases-hold : failing cases ≡ []
+unfolding cases book
+cases-hold = refl

@@ -1,0 +1,15 @@
+pub mod Words
+pub mod Refusals
+pub mod Windows
+pub mod Commands
+pub mod Formats
+pub mod Values
+pub mod Addresses
+pub mod Structures
+pub mod Step
+pub mod Walk
+pub mod Records
+pub mod File
+pub mod Printout
+pub mod Book
+pub mod Cases

@@ -1,0 +1,42 @@
+-- Document 01, the records: "A record is one word: index in bits 11:0, level in bit 12, total length in 23:16, table row in 31:24, others zero."
+use Prim.Native.Nat.{ℕ, _+_, _*_, _^_}
+use mathlib.Core.Path.{_≡_}
+use mathlib.Core.List.{List, [], _∷_, _++_}
+use lib.ListN.{length, drop}
+use Rattle.rules.specs.declared.Base.{Base}
+use Rattle.rules.specs.declared.Base.the-variants.{Unset}
+use Rattle.rules.specs.declared.Command.{Command}
+use Rattle.rules.specs.declared.Answer.{Answer}
+use Rattle.rules.specs.Words.{field}
+use Rattle.rules.specs.Windows.{Capture}
+use Rattle.rules.specs.Walk.{Run, walk, commandsOf, answerOf}
+
+-- a command's record
+unfoldable pub recordOf : Command → ℕ
+recordOf c = c .index + 2 ^ 12 * c .level + 2 ^ 16 * c .length + 2 ^ 24 * c .row
+
+-- and back
+unfoldable pub commandOf : ℕ → Command
+commandOf w = record { index = field w 11 0; level = field w 12 12; row = field w 31 24; length = field w 23 16 }
+
+-- the words of a list of commands
+unfoldable pub wordsOf : List Command → List ℕ
+wordsOf [] = []
+wordsOf (c ∷ cs) = recordOf c ∷ wordsOf cs
+
+-- how many records so many words have room for
+abbrev pub roomOf : ℕ → ℕ
+roomOf words = words
+
+-- "that many records are written, each from the first free word of the lent record buffer onward, and the words after them stay"
+unfoldable pub writtenOf : Run → List ℕ → List ℕ
+writtenOf run old = wordsOf (commandsOf run) ++ drop (length (wordsOf (commandsOf run))) old
+
+-- the starting base of document 01: "no dynamic base"
+abbrev pub startingBase : Base
+startingBase = Unset
+
+-- THE PROMISE of `walk::check`: its answer, and every word of the record buffer as it returns, by the walk of the capture
+pub record Checked (c : Capture) (old : List ℕ) (answer : Answer) (new : List ℕ) : Type 0 where
+  pub answers : answer ≡ answerOf (walk startingBase c (roomOf (length old)))
+  pub written : new ≡ writtenOf (walk startingBase c (roomOf (length old))) old

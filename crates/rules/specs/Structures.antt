@@ -1,0 +1,134 @@
+-- Document 01, "State structures".
+use Prim.Native.Nat.{ℕ, _+_, _*_}
+use mathlib.Core.Bool.{Bool, true, false, cond, not, _&&_, _||_}
+use mathlib.Core.List.{List, [], _∷_}
+use lib.ListN.{length, getD}
+use lib.Dec.{leb, eqb}
+use lib.Ieee.{Float, ofBits, nanBits, binary32, le}
+use Rattle.rules.specs.declared.Window.{Window}
+use Rattle.rules.specs.declared.Held.{Held}
+use Rattle.rules.specs.declared.Held.the-variants.{InBatch, InState, Nowhere}
+use Rattle.rules.specs.declared.Kind.{Kind}
+use Rattle.rules.specs.declared.Kind.the-variants.{Viewport, ColourCalc}
+use Rattle.rules.specs.declared.Pointer.{Pointer}
+use Rattle.rules.specs.declared.Pointer.the-variants.{NoPointer, PointsTo}
+use Rattle.rules.specs.declared.Reading.{Reading}
+use Rattle.rules.specs.declared.Reading.the-variants.{Depths, Colour, Unreadable}
+use Rattle.rules.specs.declared.Verdict.{Verdict}
+use Rattle.rules.specs.declared.Verdict.the-variants.{Pass, Fails}
+use Rattle.rules.specs.declared.Reason.the-variants.{StructureNowhere, StructureBit, StructureValue}
+use Rattle.rules.specs.Words.{bit, cleared, allowed, firstOf, inGroup}
+use Rattle.rules.specs.Refusals.{inBatch, inState, fault, refuseIf, refuseFound, firstFault}
+use Rattle.rules.specs.Windows.{lent, heldAt, partOf}
+use Rattle.rules.specs.Commands.{anyDword}
+
+-- a structure's dwords: how many, and the allowed bits of the leading one and of the group that follows it
+pub record Layout : Type 0 where
+  pub dwords : ℕ
+  pub lead : ℕ
+  pub group : List ℕ
+
+-- "CC_VIEWPORT, 2 dwords"; "COLOR_CALC_STATE, 6 dwords. Dword 0 allows FFFF8001h; dword 1 free; 2 to 5 are the blend constant"
+unfoldable pub layoutOf : Kind → Layout
+layoutOf Viewport = record { dwords = 2; lead = anyDword; group = anyDword ∷ [] }
+layoutOf ColourCalc = record { dwords = 6; lead = 0xFFFF8001; group = anyDword ∷ [] }
+
+-- 16: "structure bit not allowed"
+unfoldable pub structureBitWrong : Kind → List ℕ → ℕ → Bool
+structureBitWrong kind d k =
+    not (allowed (getD d k 0) (getD (layoutOf kind .lead ∷ layoutOf kind .group) (inGroup (length (layoutOf kind .group)) k) 0))
+
+-- a dword as a single-precision value
+abbrev pub single : ℕ → Float
+single w = ofBits binary32 w
+
+abbrev pub isNan : ℕ → Bool
+isNan w = nanBits binary32 w
+
+-- "compared as single-precision values, -0 equal to +0"
+abbrev pub atMost : ℕ → ℕ → Bool
+atMost v w = le (single v) (single w)
+
+-- "Neither is NaN (place: itself) and minimum is at most maximum (place: maximum)", broken at a dword
+unfoldable pub depthWrong : List ℕ → ℕ → Bool
+depthWrong d k = isNan (getD d k 0) || (eqb k 1 && not (atMost (getD d 0 0) (getD d 1 0)))
+
+-- "2 to 5 are the blend constant, none NaN", broken at a dword
+unfoldable pub colourWrong : List ℕ → ℕ → Bool
+colourWrong d k = leb 2 k && isNan (getD d k 0)
+
+-- 17: "structure value rule broken"
+unfoldable pub structureValueWrong : Kind → List ℕ → ℕ → Bool
+structureValueWrong Viewport d k = depthWrong d k
+structureValueWrong ColourCalc d k = colourWrong d k
+
+-- a structure that is asked for: which, where it lies, its dwords, and the batch dword that points to it
+pub record Asked : Type 0 where
+  pub kind : Kind
+  pub held : Held
+  pub dwords : List ℕ
+  pub pointer : ℕ
+
+-- the structure at an address
+abbrev pub askedAt : List ℕ → ℕ → List ℕ → ℕ → Kind → ℕ → ℕ → Asked
+askedAt batch batchAt state stateAt kind address pointer =
+    let n : ℕ = layoutOf kind .dwords in
+    let held : Held = heldAt (lent batchAt (length batch)) (lent stateAt (length state)) address n in
+    record { kind = kind; held = held; dwords = partOf batch state n held; pointer = pointer }
+
+abbrev pub nowhere : Held → Bool
+nowhere (InBatch i) = false
+nowhere (InState i) = false
+nowhere Nowhere = true
+
+-- the place of 16 and 17: "dword in its window"
+abbrev pub heldWindow : Held → ℕ
+heldWindow (InBatch i) = inBatch
+heldWindow (InState i) = inState
+heldWindow Nowhere = inBatch
+
+abbrev pub heldFrom : Held → ℕ
+heldFrom (InBatch i) = i
+heldFrom (InState i) = i
+heldFrom Nowhere = 0
+
+-- 15: "structure in neither lent window", at the "pointer dword"
+unfoldable pub structureNowhere : Asked → Verdict
+structureNowhere a = refuseIf (nowhere (a .held)) (fault StructureNowhere inBatch (a .pointer))
+
+-- 16, at the first such "dword in its window"
+unfoldable pub structureBit : Asked → Verdict
+structureBit a =
+    refuseFound StructureBit (heldWindow (a .held)) (heldFrom (a .held))
+    (firstOf (structureBitWrong (a .kind) (a .dwords)) (layoutOf (a .kind) .dwords))
+
+-- 17, at the first such "dword in its window"
+unfoldable pub structureValue : Asked → Verdict
+structureValue a =
+    refuseFound StructureValue (heldWindow (a .held)) (heldFrom (a .held))
+    (firstOf (structureValueWrong (a .kind) (a .dwords)) (layoutOf (a .kind) .dwords))
+
+-- the order of the three
+unfoldable pub structureChecks : List (Asked → Verdict)
+structureChecks = structureNowhere ∷ structureBit ∷ structureValue ∷ []
+
+-- "a depth range with two floats, a colour state with four"
+abbrev pub valuesOf : Kind → List ℕ → Reading
+valuesOf Viewport d = Depths (single (getD d 0 0)) (single (getD d 1 0))
+valuesOf ColourCalc d = Colour (single (getD d 2 0)) (single (getD d 3 0)) (single (getD d 4 0)) (single (getD d 5 0))
+
+abbrev pub readingOf : Verdict → Kind → List ℕ → Reading
+readingOf Pass kind d = valuesOf kind d
+readingOf (Fails f) kind d = Unreadable f
+
+-- "A structure read gives back a depth range with two floats, a colour state with four, or its refusal."
+unfoldable pub readAt : List ℕ → ℕ → List ℕ → ℕ → Kind → ℕ → ℕ → Reading
+readAt batch batchAt state stateAt kind address pointer =
+    let a : Asked = askedAt batch batchAt state stateAt kind address pointer in
+    readingOf (firstFault structureChecks a) kind (a .dwords)
+
+-- what a read says of the capture: this paper's number and place for its refusal, and nothing for its values
+unfoldable pub verdictOf : Reading → Verdict
+verdictOf (Depths a b) = Pass
+verdictOf (Colour r g b a) = Pass
+verdictOf (Unreadable f) = Fails f
