@@ -1,2 +1,12 @@
 pub mod Searching
 pub mod Trying
+pub mod Stepping
+pub mod Walking
+pub mod Ranges
+pub mod Storing
+pub mod Moving
+pub mod Tables
+pub mod Versions
+pub mod Running
+pub mod Depths
+pub mod Unique

@@ -1,5 +1,6 @@
 -- Document 01, "The walk": the trace of a run with its budget, its cut by the room for records, and the answer.
 use Prim.Native.Nat.{ℕ, zero, suc, _+_, _*_, _^_}
+use mathlib.Core.Path.{_≡_}
 use mathlib.Core.List.{List, [], _∷_, _++_}
 use lib.ListN.{length, drop}
 use Rattle.rules.specs.declared.Level.the-variants.{First}
@@ -53,7 +54,12 @@ unless (Fails f) run = ended (Fails f)
 unfoldable pub walk : Base → Capture → ℕ → Run
 walk base c room = unless (windowFault (lengthsOf c)) (cut room (traceFrom budget c (start base)))
 
--- "the number of commands accepted, the end included", and what is told of them
+-- what the walk reaches: from the cursor s the commands are taken, one after the other, and then it stands at the last cursor
+pub data Leads (c : Capture) : Cursor → List Command → Cursor → Type 0 where
+  stays : {s : Cursor} → Leads c s [] s
+  onward : {s t u : Cursor} {command : Command} {commands : List Command} → stepOf c s ≡ Taken command (To t) → Leads c t commands u → Leads c s (command ∷ commands) u
+
+-- the commands accepted, and how the run ended
 unfoldable pub commandsOf : Run → List Command
 commandsOf (ended v) = []
 commandsOf (then command rest) = command ∷ commandsOf rest

@@ -1,0 +1,71 @@
+-- What a command that passed 13 stores, and where: only in scratch. What a start or a return does to the level.
+-- Assumes nothing.
+use Prim.Native.Nat.{ℕ, zero, suc, _+_, _-_, _*_, _/_, _%_, _^_, _≤_, _<_}
+use native.Mathlib.Omega.{arith}
+use mathlib.Core.Path.{_≡_, refl, sym, ap, _∙_}
+use mathlib.Core.Bool.{Bool, true, false, cond, not}
+use mathlib.Core.List.{List, [], _∷_}
+use lib.ListN.{length, getD}
+use lib.Dec.{eqb}
+use borrow.Author.Tests.{eq-eqb, ne-eqb, eqb-true, not-false}
+use Rattle.rules.specs.declared.Windows.{Windows}
+use Rattle.rules.specs.declared.Allowed.{Allowed}
+use Rattle.rules.specs.declared.Allowed.the-variants.{BatchOnly, ScratchOnly, AnyWindow}
+use Rattle.rules.specs.declared.Access.{Access}
+use Rattle.rules.specs.declared.Access.the-variants.{Unused, Reaches}
+use Rattle.rules.specs.Words.{bit, field, inGroup}
+use Rattle.rules.specs.Windows.{fits}
+use Rattle.rules.specs.Commands.{rows, theRow, groupSize, lengthOf, lengthRight}
+use Rattle.rules.specs.Values.{eightBytes, postSync}
+use Rattle.rules.specs.Addresses.{usesByRow, accessOf, accessAt, addressAt, rangeWrong}
+use Rattle.rules.proofs.Ranges.{Inside, in-batch, in-scratch}
+
+-- an address that is used and whose range is not outside fits where its rule says
+pub access-fits : (w : Windows) (r : ℕ) (d : List ℕ) (k : ℕ) {bytes : ℕ} {allowed : Allowed} → accessAt r d k ≡ Reaches bytes allowed → rangeWrong w r d k ≡ false
+    → fits w allowed (addressAt d k) bytes ≡ true
+unfolding rangeWrong
+access-fits w r d k e h = not-false _ (rw e at h)
+
+-- the addresses of the rows that move data, at their low dwords
+pub start-reaches : (d : List ℕ) → accessAt 2 d 1 ≡ Reaches 4 BatchOnly
+unfolding accessAt accessOf usesByRow rows theRow groupSize inGroup
+start-reaches d = refl
+
+pub store-reaches : (d : List ℕ) → accessAt 4 d 1 ≡ Reaches (cond (eightBytes d) 8 4) ScratchOnly
+unfolding accessAt accessOf usesByRow rows theRow groupSize inGroup
+store-reaches d = refl
+
+pub store-register-reaches : (d : List ℕ) → accessAt 5 d 2 ≡ Reaches 4 ScratchOnly
+unfolding accessAt accessOf usesByRow rows theRow groupSize inGroup
+store-register-reaches d = refl
+
+pub load-register-reaches : (d : List ℕ) → accessAt 6 d 2 ≡ Reaches 4 AnyWindow
+unfolding accessAt accessOf usesByRow rows theRow groupSize inGroup
+load-register-reaches d = refl
+
+pub pipe-reaches : (d : List ℕ) → (postSync d ≡ 0 → ⊥) → accessAt 7 d 2 ≡ Reaches 8 ScratchOnly
+unfolding accessAt accessOf usesByRow rows theRow groupSize inGroup
+pipe-reaches d h = rw (ne-eqb (postSync d) 0 h)
+
+-- the stores of a command: row 4 its data dwords, row 5 one dword, row 7 with post-sync two; the low dword of the address, and the bytes
+pub data Stores (d : List ℕ) : ℕ → ℕ → ℕ → Type 0 where
+  row-four : Stores d 4 1 (4 * (lengthOf 4 (getD d 0 0) - 3))
+  row-five : Stores d 5 2 4
+  row-seven : (postSync d ≡ 0 → ⊥) → Stores d 7 2 8
+
+-- the bytes that row 4 stores are its data dwords', by the rule of 8
+eight-or-four : (header : ℕ) → lengthRight 4 header ≡ true → cond (bit header 21) 8 4 ≡ 4 * (lengthOf 4 header - 3)
+unfolding lengthRight lengthOf rows theRow groupSize
+eight-or-four header e = by (bit header 21) (eqb-true _ _ e)
+  where
+    by : (b : Bool) → field header 7 0 ≡ cond b 3 2 → cond b 8 4 ≡ 4 * (field header 7 0 + 2 - 3)
+    by true q = rw q
+    by false q = rw q
+
+-- A STORE THAT PASSED 13 LIES IN SCRATCH.
+pub stores-in-scratch : (w : Windows) (r : ℕ) (d : List ℕ) (low bytes : ℕ) → Stores d r low bytes → lengthRight r (getD d 0 0) ≡ true → rangeWrong w r d low ≡ false
+    → Inside (w .scratch) (addressAt d low) bytes
+stores-in-scratch w r d low bytes row-four h e =
+    in-scratch w _ _ (access-fits w 4 d 1 (store-reaches d ∙ ap (λ n. Reaches n ScratchOnly) (eight-or-four (getD d 0 0) h)) e)
+stores-in-scratch w r d low bytes row-five h e = in-scratch w _ _ (access-fits w 5 d 2 (store-register-reaches d) e)
+stores-in-scratch w r d low bytes (row-seven p) h e = in-scratch w _ _ (access-fits w 7 d 2 (pipe-reaches d p) e)
