@@ -1,0 +1,65 @@
+// What is known of codes: surface formats, topologies and registers.
+ghost use mathlib.Core.Path.{_≡_};
+ghost use mathlib.Core.Bool.{not};
+ghost use lib.Dec.{eqb};
+ghost use lib.ListN.{getD};
+ghost use Rattle.rules.specs.Formats.{formatBits, between, knownTopology, knownRegister};
+
+mod table;
+
+pub use table::SURFACE_FORMATS;
+
+// The table's entry for a code; 0 past its end. The table is lent, since naming the constant here would copy it for each code.
+pub fn format_bits(table: &[u16; 512], code: usize) -> u16
+    ensures { λ r. ⌜ r ≡ getD (now (table .entry)) code 0 ⌝ }
+{
+    // As a slice: of a slice, unlike an array, the check knows that it is as long as its contents.
+    let entries: &[u16] = table;
+    if code < entries.len() {
+        entries[code]
+    } else {
+        0
+    }
+}
+
+// Whether an element can have the format.
+pub fn known_format(table: &[u16; 512], code: usize) -> bool
+    ensures { λ r. ⌜ r ≡ not (eqb (getD (now (table .entry)) code 0) 0) ⌝ }
+{
+    format_bits(table, code) != 0
+}
+
+// The one place that knows which table is lent.
+pub fn surface_format(code: usize) -> u16
+    ensures { λ r. ⌜ r ≡ formatBits code ⌝ }
+{
+    let table = SURFACE_FORMATS;
+    format_bits(&table, code)
+}
+
+// Low to high, both included.
+fn between(low: u32, high: u32, n: u32) -> bool
+    ensures { λ r. ⌜ r ≡ between low high n ⌝ }
+{
+    low <= n && n <= high
+}
+
+pub fn known_topology(code: u32) -> bool
+    ensures { λ r. ⌜ r ≡ knownTopology code ⌝ }
+{
+    if between(0x01, 0x14, code) {
+        return true;
+    }
+    code == 0x16 || between(0x20, 0x3F, code)
+}
+
+pub fn known_register(register: u32) -> bool
+    ensures { λ r. ⌜ r ≡ knownRegister register ⌝ }
+{
+    match register {
+        0x2400 | 0x2404 | 0x2408 | 0x240C | 0x2420 | 0x2430 | 0x2434 | 0x2438 | 0x243C | 0x2440 => {
+            true
+        }
+        _ => register % 4 == 0 && between(0x2600, 0x267C, register),
+    }
+}
