@@ -1,0 +1,136 @@
+// The addresses that a command uses (13): whether its dword k, the dword j of its group, is the low dword of one.
+ghost use mathlib.Core.Path.{_≡_};
+ghost use mathlib.Core.List.{[]};
+ghost use Prim.Native.Nat.{_-_, _<_};
+ghost use lib.ListN.{length};
+ghost use Rattle.rules.specs.Addresses.{startUse, storeUse, storeRegisterUse, loadRegisterUse, pipeUse, vertexBufferUse, indexBufferUse, accessOf, accessWrong, sized};
+use crate::dwords::dword;
+use rules::Access;
+use rules::Allowed;
+
+fn start_use(j: usize) -> Access
+    ensures { λ r. ⌜ r ≡ startUse [] 0 j ⌝ }
+{
+    if j == 1 {
+        Access::Reaches(4, Allowed::BatchOnly)
+    } else {
+        Access::Unused
+    }
+}
+
+fn store_use(command: &[u32], j: usize) -> Access
+    ensures { λ r. ⌜ r ≡ storeUse (now (command .entry)) 0 j ⌝ }
+{
+    if j != 1 {
+        return Access::Unused;
+    }
+    if dword(command, 0) / 0x20_0000 % 2 == 1 {
+        Access::Reaches(8, Allowed::ScratchOnly)
+    } else {
+        Access::Reaches(4, Allowed::ScratchOnly)
+    }
+}
+
+fn store_register_use(j: usize) -> Access
+    ensures { λ r. ⌜ r ≡ storeRegisterUse [] 0 j ⌝ }
+{
+    if j == 2 {
+        Access::Reaches(4, Allowed::ScratchOnly)
+    } else {
+        Access::Unused
+    }
+}
+
+fn load_register_use(j: usize) -> Access
+    ensures { λ r. ⌜ r ≡ loadRegisterUse [] 0 j ⌝ }
+{
+    if j == 2 {
+        Access::Reaches(4, Allowed::AnyWindow)
+    } else {
+        Access::Unused
+    }
+}
+
+fn pipe_use(command: &[u32], j: usize) -> Access
+    ensures { λ r. ⌜ r ≡ pipeUse (now (command .entry)) 0 j ⌝ }
+{
+    if j != 2 {
+        return Access::Unused;
+    }
+    if dword(command, 1) / 0x4000 % 4 == 0 {
+        return Access::Unused;
+    }
+    Access::Reaches(8, Allowed::ScratchOnly)
+}
+
+// A range of so many bytes, if there are any.
+fn sized_use(size: u32) -> Access
+    ensures { λ r. ⌜ r ≡ sized size ⌝ }
+{
+    if size == 0 {
+        Access::Unused
+    } else {
+        Access::Reaches(size as u64, Allowed::AnyWindow)
+    }
+}
+
+// The dword before, as the definitions subtract: none is before the first.
+fn before(k: usize) -> usize
+    ensures { λ r. ⌜ r ≡ k - 1 ⌝ }
+{
+    if 0 < k { k - 1 } else { 0 }
+}
+
+fn vertex_buffer_use(command: &[u32], k: usize, j: usize) -> Access
+    requires { ⌜ k < length (now command) ⌝ }
+    ensures { λ r. ⌜ r ≡ vertexBufferUse (now (command .entry)) k j ⌝ }
+{
+    if j != 2 {
+        return Access::Unused;
+    }
+    let flags = dword(command, before(k));
+    if flags / 0x2000 % 2 == 1 {
+        return Access::Unused;
+    }
+    if flags / 0x4000 % 2 != 1 {
+        return Access::Unused;
+    }
+    sized_use(dword(command, k + 2))
+}
+
+fn index_buffer_use(command: &[u32], k: usize, j: usize) -> Access
+    requires { ⌜ k < length (now command) ⌝ }
+    ensures { λ r. ⌜ r ≡ indexBufferUse (now (command .entry)) k j ⌝ }
+{
+    if j != 2 {
+        return Access::Unused;
+    }
+    sized_use(dword(command, k + 2))
+}
+
+// The address that the command uses with its low dword at k, if it does.
+pub fn access_of(row: usize, command: &[u32], k: usize, j: usize) -> Access
+    requires { ⌜ k < length (now command) ⌝ }
+    ensures { λ r. ⌜ r ≡ accessOf row (now (command .entry)) k j ⌝ }
+{
+    match row {
+        0 => Access::Unused,
+        1 => Access::Unused,
+        2 => start_use(j),
+        3 => Access::Unused,
+        4 => store_use(command, j),
+        5 => store_register_use(j),
+        6 => load_register_use(j),
+        7 => pipe_use(command, j),
+        8 => Access::Unused,
+        9 => Access::Unused,
+        10 => vertex_buffer_use(command, k, j),
+        11 => Access::Unused,
+        12 => index_buffer_use(command, k, j),
+        13 => Access::Unused,
+        14 => Access::Unused,
+        15 => Access::Unused,
+        16 => Access::Unused,
+        _ => Access::Unused,
+    }
+}

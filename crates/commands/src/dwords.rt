@@ -1,0 +1,21 @@
+// Reading a command's dwords by their number; past the end stands 0, as in the definitions.
+ghost use mathlib.Core.Path.{_≡_};
+ghost use Prim.Native.Nat.{_+_, _<_};
+ghost use lib.ListN.{length, getD};
+ghost use Rattle.rules.specs.Addresses.{addressAt};
+
+pub fn dword(command: &[u32], k: usize) -> u32
+    ensures { λ r. ⌜ r ≡ getD (now (command .entry)) k 0 ⌝ }
+{
+    if k < command.len() { command[k] } else { 0 }
+}
+
+// The address whose low dword is dword k.
+pub fn address_at(command: &[u32], k: usize) -> u64
+    requires { ⌜ k < length (now command) ⌝ }
+    ensures { λ r. ⌜ r ≡ addressAt (now (command .entry)) k ⌝ }
+{
+    let low = command[k] as u64;
+    let high = dword(command, k + 1) as u64;
+    low + 0x1_0000_0000 * high
+}
