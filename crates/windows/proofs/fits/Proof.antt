@@ -1,0 +1,34 @@
+-- `windows::fits` meets its contract, by that of `words::holds` for each window that is allowed.
+-- Assumes nothing.
+use mathlib.Core.Path.{sym, _∙_}
+use borrow.Author.Needs.{needs}
+use mathlib.Core.Bool.{or-false}
+use Rattle.rules.specs.Words.{some}
+use Rattle.rules.specs.Windows.{windowsAllowed, fits}
+use Rattle.windows.proofs.fits.Statement.{statement}
+use Rattle.windows.proofs.fits.Tie as tie
+
+returns : tie.Need-returns
+unfolding some windowsAllowed fits
+returns c = simp (c .before .enum-told .given .1, or-false) (c .holds .ensures)
+
+returns-2 : tie.Need-returns-2
+unfolding some windowsAllowed fits
+returns-2 c = simp (c .before .enum-told2 .given .1, or-false) (c .holds2 .ensures)
+
+returns-3 : tie.Need-returns-3
+unfolding some windowsAllowed fits
+returns-3 c =
+    simp (
+      c .before .before .before .enum-told3 .given .1,
+      c .before .before .holds3 .ensures,
+      c .before .holds4 .ensures,
+      c .holds5 .ensures,
+      or-false,
+    )
+
+pub fits-spec : {M : Type 1} → statement M
+fits-spec =
+    tie.close
+    (tie.spec (λ c. search needs) (λ c κs. search needs) (λ c. search needs) (λ c κs. search needs) (λ c. search needs)
+    (λ c κs. search needs) (λ c κs. search needs) (λ c κs. search needs) returns returns-2 returns-3)
