@@ -6,7 +6,7 @@ use native.Mathlib.Numerals.{add-one}
 use native.Mathlib.Omega.{arith}
 use mathlib.Core.Path.{_≡_, refl, sym, ap, _∙_}
 use mathlib.Core.List.{List, [], _∷_, _++_}
-use lib.ListN.{length, getD, take, drop, set, length-append, drop-of-length-le}
+use lib.ListN.{length, getD, take, drop, set, length-append, length-set, drop-of-length-le}
 use lib.Seq.{sets, sets-eq, drop-cons}
 use borrow.Author.Tests.{lt-ltb, le-ltb}
 use Rattle.rules.specs.Printout.{digitsOf}
@@ -30,17 +30,22 @@ then {at} {xs = xs} {ys = ys} {old = old} p q = record {
 -- a text put byte by byte: the stores that are left, made on what is there, give the whole text
 pub record Copying (at : ℕ) (text old new : List ℕ) (i : ℕ) : Type 0 where
   pub within : i ≤ length text
+  pub same : length new ≡ length old
   pub rest : sets new (at + i) (drop i text) ≡ sets old at text
 
 module _ (at : ℕ) (text old : List ℕ) where
   pub copy-starts : Copying at text old old 0
-  copy-starts = record { within = omega arith; rest = rw add-zero }
+  copy-starts = record { within = omega arith; same = refl; rest = rw add-zero }
 
   pub copy-goes-on : {new : List ℕ} {i : ℕ} → Copying at text old new i → i < length text
       → Copying at text old (set new (at + i) (getD text i 0)) (i + 1)
   copy-goes-on {new} {i} c h =
       let e : at + (i + 1) ≡ suc (at + i) = omega arith in
-      record { within = omega arith; rest = rw (e, add-one i) (rw (drop-cons text i 0 h) at (c .rest)) }
+      record {
+        within = omega arith;
+        same = simp length-set (c .same);
+        rest = rw (e, add-one i) (rw (drop-cons text i 0 h) at (c .rest));
+      }
 
   pub copy-ends : {new : List ℕ} {i : ℕ} → Copying at text old new i → length text ≤ i → Put at (length text) text old (at + i) new
   copy-ends {new} {i} c h = record {

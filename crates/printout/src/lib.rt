@@ -10,16 +10,16 @@ ghost use Rattle.rules.specs.Records.{commandOf};
 ghost use Rattle.printout.specs.Lines.{Put, Line};
 
 // One byte at a place. Like every function here that writes, it answers the place behind what it wrote.
-fn put_byte(out: &mut [u8; 128], at: usize, byte: u8) -> usize
-    requires { ⌜ at < 128 ⌝ }
+fn put_byte(out: &mut [u8], at: usize, byte: u8) -> usize
+    requires { ⌜ at < length (now out) ⌝ }
     ensures { λ r. ⌜ Put at 1 (byte ∷ []) (now (out .entry)) r (now (out .exit)) ⌝ }
 {
     out[at] = byte;
     at + 1
 }
 
-fn put_text(out: &mut [u8; 128], at: usize, text: &[u8]) -> usize
-    requires { ⌜ at + length (now text) ≤ 128 ⌝ }
+fn put_text(out: &mut [u8], at: usize, text: &[u8]) -> usize
+    requires { ⌜ at + length (now text) ≤ length (now out) ⌝ }
     ensures { λ r. ⌜ Put at (length (now (text .entry))) (now (text .entry)) (now (out .entry)) r (now (out .exit)) ⌝ }
 {
     let mut i = 0;
@@ -31,8 +31,8 @@ fn put_text(out: &mut [u8; 128], at: usize, text: &[u8]) -> usize
 }
 
 // The last `most` digits of n, the highest first and with no leading zero.
-fn put_digits(out: &mut [u8; 128], at: usize, most: usize, n: usize) -> usize
-    requires { ⌜ at + most ≤ 128 ⌝ }
+fn put_digits(out: &mut [u8], at: usize, most: usize, n: usize) -> usize
+    requires { ⌜ at + most ≤ length (now out) ⌝ }
     ensures { λ r. ⌜ Put at most (digitsOf most n) (now (out .entry)) r (now (out .exit)) ⌝ }
 {
     if most == 0 {
@@ -47,8 +47,8 @@ fn put_digits(out: &mut [u8; 128], at: usize, most: usize, n: usize) -> usize
 }
 
 // A number behind its label: "reason 0".
-fn put_labelled(out: &mut [u8; 128], at: usize, label: &[u8], n: u32) -> usize
-    requires { ⌜ at + (length (now label) + 20) ≤ 128 ⌝ }
+fn put_labelled(out: &mut [u8], at: usize, label: &[u8], n: u32) -> usize
+    requires { ⌜ at + (length (now label) + 20) ≤ length (now out) ⌝ }
     ensures { λ r.
       ⌜ Put at (length (now (label .entry)) + 20) (now (label .entry) ++ decimal n) (now (out .entry)) r (now (out .exit)) ⌝ }
 {
@@ -57,8 +57,8 @@ fn put_labelled(out: &mut [u8; 128], at: usize, label: &[u8], n: u32) -> usize
 }
 
 // A number and the byte that ends it: a space, or the line feed.
-fn put_column(out: &mut [u8; 128], at: usize, n: usize, end: u8) -> usize
-    requires { ⌜ at + 21 ≤ 128 ⌝ }
+fn put_column(out: &mut [u8], at: usize, n: usize, end: u8) -> usize
+    requires { ⌜ at + 21 ≤ length (now out) ⌝ }
     ensures { λ r. ⌜ Put at 21 (decimal n ++ (end ∷ [])) (now (out .entry)) r (now (out .exit)) ⌝ }
 {
     let behind = put_digits(out, at, 20, n);

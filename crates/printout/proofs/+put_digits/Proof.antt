@@ -1,7 +1,6 @@
-use Prim.Native.Nat.{ℕ, _<_}
-use borrow.Author.Needs.{needs}
-use native.Mathlib.Omega.{arith}
 use Rattle.printout.proofs.Putting.{no-digit, only-digit, last-digit}
+use borrow.Author.Needs.{needs}
+use Prim.Native.Nat.{ℕ, _<_}
 use borrow.Fn.Kinds.{In}
 use borrow.Fn.PlainCycle.{Measures, is, falls, and}
 use Rattle.printout.proofs.put_digits.Reads as put-digits
@@ -59,13 +58,22 @@ put-digits-put-byte-requires : (t : ℕ) → put-digits-lts.Need-put-byte-requir
 put-digits-put-byte-requires t c κs = search needs
 
 -- src/lib.rt:43:9
+put-digits-same-length : (t : ℕ) → put-digits-lts.Need-same-length (
+  put-byte-reads.Asked,
+  put-byte-reads.Learnt,
+  put-digits-below t,
+  put-digits.Post,
+) (put-digits-at t) put-digits.Post
+put-digits-same-length t c = search needs
+
+-- src/lib.rt:43:9
 put-digits-returns-2 : (t : ℕ) → put-digits-lts.Need-returns-2 (
   put-byte-reads.Asked,
   put-byte-reads.Learnt,
   put-digits-below t,
   put-digits.Post,
 ) (put-digits-at t) put-digits.Post
-put-digits-returns-2 t c = only-digit _ _ (search needs) (search needs) (c .put-byte .ensures)
+put-digits-returns-2 t c = only-digit _ _ (search needs) (search needs) (c .before .before .put-byte .ensures)
 
 -- src/lib.rt:45:36
 put-digits-sub-put-digits : (t : ℕ) → put-digits-lts.Need-sub-put-digits (
@@ -95,13 +103,22 @@ put-digits-put-byte-requires-2 : (t : ℕ) → put-digits-lts.Need-put-byte-requ
 put-digits-put-byte-requires-2 t c κs = search needs
 
 -- src/lib.rt:34:1
+put-digits-same-length-2 : (t : ℕ) → put-digits-lts.Need-same-length-2 (
+  put-byte-reads.Asked,
+  put-byte-reads.Learnt,
+  put-digits-below t,
+  put-digits.Post,
+) (put-digits-at t) put-digits.Post
+put-digits-same-length-2 t c = search needs
+
+-- src/lib.rt:34:1
 put-digits-returns-3 : (t : ℕ) → put-digits-lts.Need-returns-3 (
   put-byte-reads.Asked,
   put-byte-reads.Learnt,
   put-digits-below t,
   put-digits.Post,
 ) (put-digits-at t) put-digits.Post
-put-digits-returns-3 t c = last-digit _ _ (search needs) (search needs) (c .before .before .put-digits .ensures) (c .put-byte2 .ensures)
+put-digits-returns-3 t c = last-digit _ _ (search needs) (search needs) (c .before .before .before .before .before .before .put-digits .ensures) (c .before .before .put-byte2 .ensures)
 
 pub +put-digits-spec : {M : Type 1} → statement M
 +put-digits-spec = close μ-put-digits λ t. put-digits-lts.spec (
@@ -116,8 +133,10 @@ pub +put-digits-spec : {M : Type 1} → statement M
     (put-digits-cast-digit t)
     (put-digits-add-digit t)
     (put-digits-put-byte-requires t)
+    (put-digits-same-length t)
     (put-digits-returns-2 t)
     (put-digits-sub-put-digits t)
     (put-digits-put-digits-requires t)
     (put-digits-put-byte-requires-2 t)
+    (put-digits-same-length-2 t)
     (put-digits-returns-3 t)

@@ -1,7 +1,7 @@
-use borrow.Author.Needs.{needs}
 use mathlib.Core.List.{append-assoc}
-use Rattle.rules.specs.Printout.{answerLine}
 use Rattle.printout.proofs.Putting.{then, whole}
+use Rattle.rules.specs.Printout.{answerLine}
+use borrow.Author.Needs.{needs}
 use Rattle.printout.proofs.answer_line.Statement.{statement}
 use Rattle.printout.proofs.answer_line.Tie as tie
 use Rattle.printout.proofs.answer_line.Reads as reads
@@ -47,7 +47,12 @@ put-byte-requires c κs = search needs
 
 -- src/lib.rt:69:1
 returns : tie.Need-returns
-returns c = ?
+unfolding answerLine
+returns c = 
+    whole (search needs)
+    (simp append-assoc at (then (c .before .before .before .before .before .before .before .before .before .before .before .put-labelled .ensures)
+    (then (c .before .before .before .before .before .before .before .before .put-labelled2 .ensures)
+    (then (c .before .before .before .before .before .put-labelled3 .ensures) (then (c .before .before .put-labelled4 .ensures) (c .put-byte .ensures))))))
 
 pub answer-line-spec : {M : Type 1} → statement M
 answer-line-spec =

@@ -1,8 +1,7 @@
-use borrow.Author.Needs.{needs}
 use mathlib.Core.List.{append-assoc}
-use native.Mathlib.Omega.{arith}
-use Rattle.rules.specs.Printout.{commandLine}
 use Rattle.printout.proofs.Putting.{then, whole}
+use Rattle.rules.specs.Printout.{commandLine}
+use borrow.Author.Needs.{needs}
 use Rattle.printout.proofs.command_line.Statement.{statement}
 use Rattle.printout.proofs.command_line.Tie as tie
 use Rattle.printout.proofs.command_line.Reads as reads
@@ -28,7 +27,7 @@ put-column-requires-4 c κs = search needs
 -- src/lib.rt:92:1
 returns : tie.Need-returns
 unfolding commandLine
-returns c =
+returns c = 
     whole (search needs)
     (simp append-assoc at (then (c .before .before .before .before .before .before .put-column .ensures)
     (then (c .before .before .before .before .put-column2 .ensures) (then (c .before .before .put-column3 .ensures) (c .put-column4 .ensures)))))

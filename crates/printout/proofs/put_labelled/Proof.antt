@@ -1,5 +1,5 @@
-use borrow.Author.Needs.{needs}
 use Rattle.printout.proofs.Putting.{then}
+use borrow.Author.Needs.{needs}
 use Rattle.printout.proofs.put_labelled.Statement.{statement}
 use Rattle.printout.proofs.put_labelled.Tie as tie
 use Rattle.printout.proofs.put_labelled.Reads as reads
@@ -16,8 +16,12 @@ put-digits-requires : tie.Need-put-digits-requires
 put-digits-requires c κs = search needs
 
 -- src/lib.rt:50:1
+same-length : tie.Need-same-length
+same-length c = search needs
+
+-- src/lib.rt:50:1
 returns : tie.Need-returns
-returns c = then (c .before .before .put-text .ensures) (c .put-digits .ensures)
+returns c = then (c .before .before .before .before .before .before .put-text .ensures) (c .before .before .put-digits .ensures)
 
 pub put-labelled-spec : {M : Type 1} → statement M
-put-labelled-spec = tie.close (tie.spec put-text-requires put-digits-requires returns)
+put-labelled-spec = tie.close (tie.spec put-text-requires put-digits-requires same-length returns)

@@ -1,7 +1,7 @@
 use Prim.Native.Nat.{_-_}
 use lib.ListN.{length}
-use borrow.Author.Needs.{needs}
 use Rattle.printout.proofs.Putting.{Copying, copy-starts, copy-goes-on, copy-ends}
+use borrow.Author.Needs.{needs}
 use Rattle.printout.proofs.put_text.Statement.{statement}
 use Rattle.printout.proofs.put_text.Tie as tie
 use Rattle.printout.proofs.put_text.Reads as reads
@@ -26,8 +26,8 @@ add-out : tie.Need-add-out Inv-loop μ-loop
 add-out c = search needs
 
 -- src/lib.rt:27:9
-element-write-out : tie.Need-element-write-out Inv-loop μ-loop
-element-write-out c = search needs
+slice-write-out : tie.Need-slice-write-out Inv-loop μ-loop
+slice-write-out c = search needs
 
 -- src/lib.rt:28:9
 add-i : tie.Need-add-i Inv-loop μ-loop
@@ -46,6 +46,10 @@ add-result : tie.Need-add-result Inv-loop μ-loop
 add-result c = search needs
 
 -- src/lib.rt:21:1
+same-length : tie.Need-same-length Inv-loop μ-loop
+same-length c = search needs
+
+-- src/lib.rt:21:1
 returns : tie.Need-returns Inv-loop μ-loop
 returns c = copy-ends _ _ _ (c .before .loop .inv) (search needs)
 
@@ -58,9 +62,10 @@ put-text-spec =
     loop-holds
     shared-slice-read-out
     add-out
-    element-write-out
+    slice-write-out
     add-i
     loop-less
     loop-again
     add-result
+    same-length
     returns)

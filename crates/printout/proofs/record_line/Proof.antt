@@ -16,7 +16,7 @@ command-line-requires c κs = search needs
 
 -- src/lib.rt:102:1
 returns : tie.Need-returns
-returns c = let g = c .before .before .before .good in ?
+returns c = rw (c .before .command .ensures) at (c .command-line .ensures)
 
 pub record-line-spec : {M : Type 1} → statement M
 record-line-spec = tie.close (tie.spec command-requires command-line-requires returns)
