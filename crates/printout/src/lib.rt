@@ -50,7 +50,7 @@ fn put_digits(out: &mut [u8], at: usize, most: usize, n: usize) -> usize
 fn put_labelled(out: &mut [u8], at: usize, label: &[u8], n: u32) -> usize
     requires { ⌜ at + (length (now label) + 20) ≤ length (now out) ⌝ }
     ensures { λ r.
-      ⌜ Put at (length (now (label .entry)) + 20) (now (label .entry) ++ decimal n) (now (out .entry)) r (now (out .exit)) ⌝ }
+        ⌜ Put at (length (now (label .entry)) + 20) (now (label .entry) ++ decimal n) (now (out .entry)) r (now (out .exit)) ⌝ }
 {
     let number = put_text(out, at, label);
     put_digits(out, number, 20, n as usize)
@@ -77,7 +77,7 @@ pub fn answer_line(out: &mut [u8; 128], answer: Answer) -> usize
 }
 
 // What a record says.
-pub fn command(word: u32) -> Command
+fn command(word: u32) -> Command
     ensures { λ r. ⌜ r ≡ commandOf word ⌝ }
 {
     let bits = word as usize;

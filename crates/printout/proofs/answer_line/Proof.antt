@@ -48,7 +48,7 @@ put-byte-requires c κs = search needs
 -- src/lib.rt:69:1
 returns : tie.Need-returns
 unfolding answerLine
-returns c = 
+returns c =
     whole (search needs)
     (simp append-assoc at (then (c .before .before .before .before .before .before .before .before .before .before .before .put-labelled .ensures)
     (then (c .before .before .before .before .before .before .before .before .put-labelled2 .ensures)

@@ -27,7 +27,7 @@ put-column-requires-4 c κs = search needs
 -- src/lib.rt:92:1
 returns : tie.Need-returns
 unfolding commandLine
-returns c = 
+returns c =
     whole (search needs)
     (simp append-assoc at (then (c .before .before .before .before .before .before .put-column .ensures)
     (then (c .before .before .before .before .put-column2 .ensures) (then (c .before .before .put-column3 .ensures) (c .put-column4 .ensures)))))
