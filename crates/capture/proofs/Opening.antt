@@ -1,6 +1,7 @@
 -- The ways out of `examine`, and what a file that is not refused has shown.
 -- Assumes nothing.
 use Prim.Native.Nat.{ℕ, _+_, _-_, _*_, _<_, _≤_}
+use native.Mathlib.Nat.{zero-add}
 use native.Mathlib.Omega.{arith}
 use mathlib.Core.Path.{_≡_, refl, sym, ap, _∙_}
 use mathlib.Core.Bool.{Bool, true, false, not, _&&_, _||_}
@@ -95,17 +96,41 @@ right-distance file e =
     let both = not-false (told && due) e in
     (eqb-true _ _ (and-left told due both), eqb-true _ _ (and-right told due both))
 
+-- and buffers with room hold the counts
+right-room : (file : List ℕ) (b s : ℕ) → bufferShort (offer file b s) ≡ false → (trailerOf file .batchCount ≤ b) × (trailerOf file .stateCount ≤ s)
+right-room file b s e =
+    let first = ltb b (trailerOf file .batchCount) in
+    let second = ltb s (trailerOf file .stateCount) in
+    (ltb-false _ _ (some-left first second e), ltb-false _ _ (some-right first second e))
+
 pub held : (file : List ℕ) (b s : ℕ) {contents : Contents} → openedOf file b s ≡ Holds contents → Held file b s contents
 unfolding openedOf fileChecks
 held file b s e =
     let p = opened-passes (firstFault fileChecks (offer file b s)) (trailerOf file) e in
     let q = all-pass (offer file b s) fileChecks (p .0) in
     let d = right-distance file (refuse-passes (distanceWrong (alone file)) _ (q .1 .0)) in
-    let r = refuse-passes (bufferShort (offer file b s)) _ (q .1 .1 .1 .0) in
+    let r = right-room file b s (refuse-passes (bufferShort (offer file b s)) _ (q .1 .1 .1 .0)) in
     record {
       counts = p .1;
       start = omega (arith, d .0);
       size = rw (← p .1) (omega (arith, d .0, d .1));
-      batchRoom = rw (← p .1) (ltb-false _ _ (some-left _ _ r));
-      stateRoom = rw (← p .1) (ltb-false _ _ (some-right _ _ r));
+      batchRoom = rw (← p .1) (r .0);
+      stateRoom = rw (← p .1) (r .1);
     }
+
+-- the promise of `read`: of a file that is refused, and of one whose dwords are filled in
+module _ {file batch state : List ℕ} where
+  pub left-alone : {reason : Reason} → openedOf file (length batch) (length state) ≡ NotRead reason → FileRead file batch state (NotRead reason) batch state
+  unfolding filledBy
+  left-alone e = record { answers = sym e; batchFilled = rw e; stateFilled = rw e }
+
+  pub filled-in : {contents : Contents} {newBatch newState : List ℕ} → openedOf file (length batch) (length state) ≡ Holds contents
+      → newBatch ≡ filled (dwordsFrom file 0 (contents .batch .count)) batch
+      → newState ≡ filled (dwordsFrom file (4 * contents .batch .count) (contents .state .count)) state
+      → FileRead file batch state (Holds contents) newBatch newState
+  unfolding filledBy batchDwords stateDwords
+  filled-in e p q =
+      let h = held file (length batch) (length state) e in
+      let first = ap (λ (c : Contents). c .batch .count) (h .counts) in
+      let second = ap (λ (c : Contents). c .state .count) (h .counts) in
+      record { answers = sym e; batchFilled = rw (e, h .start, first) p; stateFilled = rw (e, h .start, first, second, zero-add) q }
