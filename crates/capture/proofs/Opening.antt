@@ -1,16 +1,14 @@
--- The ways out of `examine`, and what a file that is not refused has shown.
+-- The ways out of `examine`: each refusal where it is the first, and the contents where there is none.
 -- Assumes nothing.
-use Prim.Native.Nat.{ℕ, _+_, _-_, _*_, _<_, _≤_}
-use native.Mathlib.Nat.{zero-add}
+use Prim.Native.Nat.{ℕ, _<_, _≤_}
 use native.Mathlib.Omega.{arith}
 use mathlib.Core.Path.{_≡_, refl, sym, ap, _∙_}
-use mathlib.Core.Bool.{Bool, true, false, not, _&&_, _||_}
+use mathlib.Core.Bool.{true, false, _||_}
 use mathlib.Core.List.{List, _∷_}
 use lib.ListN.{length}
-use lib.Dec.{ltb, eqb}
-use borrow.Author.Tests.{lt-ltb, le-ltb, ltb-false, eqb-true, not-false}
+use lib.Dec.{ltb}
+use borrow.Author.Tests.{lt-ltb, le-ltb}
 use Rattle.rules.specs.declared.Contents.{Contents}
-use Rattle.rules.specs.declared.Opened.{Opened}
 use Rattle.rules.specs.declared.Opened.the-variants.{Holds, NotRead}
 use Rattle.rules.specs.declared.Reason.{Reason}
 use Rattle.rules.specs.declared.Reason.the-variants.{WrongCounts, FileSize, FileDistance, BufferShort}
@@ -18,9 +16,8 @@ use Rattle.rules.specs.declared.Fault.{Fault}
 use Rattle.rules.specs.declared.Verdict.{Verdict}
 use Rattle.rules.specs.declared.Verdict.the-variants.{Pass, Fails}
 use Rattle.rules.specs.Refusals.{inBatch, fault, tried, firstFault}
-use Rattle.rules.specs.File.{Offer, Trailer, trailerOf, contentsOf, fileChecks, sizeWrong, distanceWrong, fileCountsWrong, bufferShort, openedBy, openedOf, batchFrom, batchDwords, stateDwords, dwordsFrom, filled, filledBy, FileRead}
-use Rattle.rules.proofs.Trying.{all-pass, no-fault, refuse-passes, stays-failed}
-use Rattle.rules.proofs.Searching.{some-left, some-right, and-left, and-right}
+use Rattle.rules.specs.File.{Offer, trailerOf, contentsOf, fileChecks, distanceWrong, fileCountsWrong, bufferShort, openedBy, openedOf}
+use Rattle.rules.proofs.Trying.{no-fault, stays-failed}
 use Rattle.capture.specs.Offers.{offer, alone}
 
 -- what is tried one after the other: the first check, the next where one passes, and none behind a fault
@@ -70,67 +67,3 @@ module _ (file : List ℕ) (b s : ℕ) where
         → contents ≡ contentsOf (trailerOf file) → Holds contents ≡ openedOf file b s
     unfolding openedOf fileChecks
     all-right d n r e = rw (e, no-fault (offer file b s) fileChecks (rw (size-right _ k h), (rw d, (rw n, (rw r, tt)))))
-
-same-contents : {c d : Contents} → Holds c ≡ Holds d → c ≡ d
-same-contents e = cc
-
-opened-passes : (v : Verdict) (t : Trailer) {contents : Contents} → openedBy v t ≡ Holds contents → (v ≡ Pass) × (contentsOf t ≡ contents)
-opened-passes Pass t e = (refl, same-contents e)
-opened-passes (Fails f) t e = let z : _≡_ {A = ℕ} 0 1 = cc in absurd (omega arith)
-
--- what a file that is read has shown: its size, that both buffers have room, and where its dwords start
-pub record Held (file : List ℕ) (b s : ℕ) (contents : Contents) : Type 0 where
-  pub counts : contentsOf (trailerOf file) ≡ contents
-  pub start : batchFrom file ≡ 0
-  pub size : length file ≡ 40 + 4 * (contents .batch .count + contents .state .count)
-  pub batchRoom : contents .batch .count ≤ b
-  pub stateRoom : contents .state .count ≤ s
-
--- a distance that is right is the file's length, and what the counts come to
-right-distance : (file : List ℕ) → distanceWrong (alone file) ≡ false → (trailerOf file .distance ≡ length file)
-    × (trailerOf file .distance ≡ 40 + 4 * (trailerOf file .batchCount + trailerOf file .stateCount))
-right-distance file e =
-    let t = trailerOf file in
-    let told = eqb (t .distance) (length file) in
-    let due = eqb (t .distance) (40 + 4 * (t .batchCount + t .stateCount)) in
-    let both = not-false (told && due) e in
-    (eqb-true _ _ (and-left told due both), eqb-true _ _ (and-right told due both))
-
--- and buffers with room hold the counts
-right-room : (file : List ℕ) (b s : ℕ) → bufferShort (offer file b s) ≡ false → (trailerOf file .batchCount ≤ b) × (trailerOf file .stateCount ≤ s)
-right-room file b s e =
-    let first = ltb b (trailerOf file .batchCount) in
-    let second = ltb s (trailerOf file .stateCount) in
-    (ltb-false _ _ (some-left first second e), ltb-false _ _ (some-right first second e))
-
-pub held : (file : List ℕ) (b s : ℕ) {contents : Contents} → openedOf file b s ≡ Holds contents → Held file b s contents
-unfolding openedOf fileChecks
-held file b s e =
-    let p = opened-passes (firstFault fileChecks (offer file b s)) (trailerOf file) e in
-    let q = all-pass (offer file b s) fileChecks (p .0) in
-    let d = right-distance file (refuse-passes (distanceWrong (alone file)) _ (q .1 .0)) in
-    let r = right-room file b s (refuse-passes (bufferShort (offer file b s)) _ (q .1 .1 .1 .0)) in
-    record {
-      counts = p .1;
-      start = omega (arith, d .0);
-      size = rw (← p .1) (omega (arith, d .0, d .1));
-      batchRoom = rw (← p .1) (r .0);
-      stateRoom = rw (← p .1) (r .1);
-    }
-
--- the promise of `read`: of a file that is refused, and of one whose dwords are filled in
-module _ {file batch state : List ℕ} where
-  pub left-alone : {reason : Reason} → openedOf file (length batch) (length state) ≡ NotRead reason → FileRead file batch state (NotRead reason) batch state
-  unfolding filledBy
-  left-alone e = record { answers = sym e; batchFilled = rw e; stateFilled = rw e }
-
-  pub filled-in : {contents : Contents} {newBatch newState : List ℕ} → openedOf file (length batch) (length state) ≡ Holds contents
-      → newBatch ≡ filled (dwordsFrom file 0 (contents .batch .count)) batch
-      → newState ≡ filled (dwordsFrom file (4 * contents .batch .count) (contents .state .count)) state
-      → FileRead file batch state (Holds contents) newBatch newState
-  unfolding filledBy batchDwords stateDwords
-  filled-in e p q =
-      let h = held file (length batch) (length state) e in
-      let first = ap (λ (c : Contents). c .batch .count) (h .counts) in
-      let second = ap (λ (c : Contents). c .state .count) (h .counts) in
-      record { answers = sym e; batchFilled = rw (e, h .start, first) p; stateFilled = rw (e, h .start, first, second, zero-add) q }

@@ -14,8 +14,11 @@ ghost use Rattle.capture.specs.Offers.{offer, alone};
 
 // Where the dwords that follow the trailer's three addresses stand in it.
 const SCRATCH_BYTES: usize = 24;
+
 const BATCH_COUNT: usize = 28;
+
 const STATE_COUNT: usize = 32;
+
 const DISTANCE: usize = 36;
 
 // A byte as a number of 32 bits, still below 256.
@@ -76,14 +79,21 @@ fn trailer(file: &[u8]) -> Contents
     }
 }
 
-// The sum is made in 64 bits, where two counts of 32 bits cannot wrap.
+// How long a file with these counts is. The sum is made in 64 bits, where it cannot wrap.
+fn length_for(batch: u32, state: u32) -> u64
+    ensures { λ r. ⌜ r ≡ trailerBytes + 4 * (batch + state) ⌝ }
+{
+    40 + 4 * (batch as u64 + state as u64)
+}
+
 fn distance_wrong(file: &[u8]) -> bool
     requires { ⌜ trailerBytes ≤ length (now file) ⌝ }
     ensures { λ r. ⌜ r ≡ distanceWrong (alone (now (file .entry))) ⌝ }
 {
-    let told = trailer_word(file, DISTANCE) as usize;
-    let dwords = trailer_word(file, BATCH_COUNT) as usize + trailer_word(file, STATE_COUNT) as usize;
-    !((told == file.len()) & (told == 40 + 4 * dwords))
+    let told = trailer_word(file, DISTANCE) as u64;
+    let batch = trailer_word(file, BATCH_COUNT);
+    let state = trailer_word(file, STATE_COUNT);
+    !((told == file.len() as u64) & (told == length_for(batch, state)))
 }
 
 fn counts_wrong(file: &[u8]) -> bool
@@ -141,7 +151,7 @@ fn fill(file: &[u8], from: usize, n: usize, buffer: &mut [u32])
 // Reads a capture file into two lent buffers. A file that is refused leaves both as they were.
 pub fn read(file: &[u8], batch: &mut [u32], state: &mut [u32]) -> Opened
     ensures { λ r.
-      ⌜ FileRead (now (file .entry)) (now (batch .entry)) (now (state .entry)) r (now (batch .exit)) (now (state .exit)) ⌝ }
+        ⌜ FileRead (now (file .entry)) (now (batch .entry)) (now (state .entry)) r (now (batch .exit)) (now (state .exit)) ⌝ }
 {
     match examine(file, batch.len(), state.len()) {
         Opened::NotRead(reason) => Opened::NotRead(reason),

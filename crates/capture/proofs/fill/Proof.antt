@@ -1,11 +1,10 @@
+-- `fill` meets its contract. The loop's invariant: the stores that are left, made on what is there, give the whole buffer.
+-- Assumes nothing.
 use Prim.Native.Nat.{_-_}
-use Rattle.capture.proofs.Filling.{Filling, fill-starts, fill-goes-on, fill-ends}
 use borrow.Author.Needs.{needs}
+use Rattle.capture.proofs.Filling.{Filling, fill-starts, fill-goes-on, fill-ends}
 use Rattle.capture.proofs.fill.Statement.{statement}
 use Rattle.capture.proofs.fill.Tie as tie
-use Rattle.capture.proofs.fill.Reads as reads
-use Rattle.capture.proofs.fill.Lts as lts
-use Rattle.capture.proofs.word_at.Reads as word-at-reads
 
 abbrev Inv-loop : tie.InvT-loop
 Inv-loop file from n buffer₀ i₀ buffer i = Filling file from n buffer₀ buffer i
@@ -13,47 +12,36 @@ Inv-loop file from n buffer₀ i₀ buffer i = Filling file from n buffer₀ buf
 abbrev μ-loop : tie.MeasureT-loop
 μ-loop file from n buffer₀ i₀ buffer i = n - i
 
--- src/lib.rt:135:5
 loop-holds : tie.Need-loop-holds Inv-loop μ-loop
 loop-holds c = fill-starts
 
--- src/lib.rt:136:42
 mul-word-at : tie.Need-mul-word-at Inv-loop μ-loop
 mul-word-at c = search needs
 
--- src/lib.rt:136:35
 add-word-at : tie.Need-add-word-at Inv-loop μ-loop
 add-word-at c = search needs
 
--- src/lib.rt:136:21
 word-at-requires : tie.Need-word-at-requires Inv-loop μ-loop
 word-at-requires c κs = search needs
 
--- src/lib.rt:136:9
 mul-buffer : tie.Need-mul-buffer Inv-loop μ-loop
 mul-buffer c = search needs
 
--- src/lib.rt:136:9
 slice-write-buffer : tie.Need-slice-write-buffer Inv-loop μ-loop
 slice-write-buffer c = search needs
 
--- src/lib.rt:137:9
 add-i : tie.Need-add-i Inv-loop μ-loop
 add-i c = search needs
 
--- src/lib.rt:135:5
 loop-less : tie.Need-loop-less Inv-loop μ-loop
 loop-less c = search needs
 
--- src/lib.rt:135:5
 loop-again : tie.Need-loop-again Inv-loop μ-loop
 loop-again c = fill-goes-on (c .before .before .loop .inv) (search needs) (c .word-at .ensures)
 
--- src/lib.rt:130:1
 same-length : tie.Need-same-length Inv-loop μ-loop
 same-length c = search needs
 
--- src/lib.rt:130:1
 returns : tie.Need-returns Inv-loop μ-loop
 returns c = fill-ends (c .before .loop .inv) (search needs) (search needs)
 

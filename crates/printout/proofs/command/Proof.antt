@@ -1,11 +1,10 @@
-use Rattle.rules.specs.Records.{commandOf}
+-- `command` meets its contract: the lowest field is not shifted, which the rules write as a division by 1.
+-- Assumes nothing.
 use native.Mathlib.Nat.{div-one}
+use Rattle.rules.specs.Records.{commandOf}
 use Rattle.printout.proofs.command.Statement.{statement}
 use Rattle.printout.proofs.command.Tie as tie
-use Rattle.printout.proofs.command.Reads as reads
-use Rattle.printout.proofs.command.Lts as lts
 
--- src/lib.rt:80:1
 returns : tie.Need-returns
 unfolding commandOf
 returns c = rw div-one
