@@ -1,12 +1,12 @@
 -- A buffer filled dword by dword from its first word on.
 -- Assumes nothing.
 use Prim.Native.Nat.{ℕ, zero, suc, _+_, _-_, _*_, _<_, _≤_}
-use native.Mathlib.Nat.{add-zero, sub-zero, zero-add}
+use native.Mathlib.Nat.{sub-zero, zero-add}
 use native.Mathlib.Numerals.{add-one}
 use native.Mathlib.Omega.{arith}
 use mathlib.Core.Path.{_≡_, refl, ap, _∙_}
 use mathlib.Core.List.{List}
-use lib.ListN.{length, drop, set, length-set}
+use lib.ListN.{length, set, length-set}
 use lib.Seq.{sets, sets-eq}
 use Rattle.rules.specs.File.{word, dwordsFrom, filled}
 

@@ -20,7 +20,7 @@ use Rattle.rules.specs.File.{Offer, trailerOf, contentsOf, fileChecks, distance
 use Rattle.rules.proofs.Trying.{no-fault, stays-failed}
 use Rattle.capture.specs.Offers.{offer, alone}
 
--- what is tried one after the other: the first check, the next where one passes, and none behind a fault
+-- a list of checks is tried in order: first its head, then the next where one passes, and none behind a fault
 first : (check : Offer → Verdict) (checks : List (Offer → Verdict)) (o : Offer) → firstFault (check ∷ checks) o ≡ tried checks (check o) o
 unfolding tried
 first check checks o = refl
@@ -34,7 +34,7 @@ last checks o {f = f} e = rw e (stays-failed checks f o)
 
 -- a length that is neither under nor over
 size-right : (n : ℕ) → 40 ≤ n → n ≤ 32808 → (ltb n 40 || ltb 32808 n) ≡ false
-size-right n k h = simp (le-ltb _ _ k, le-ltb _ _ h)
+size-right n least most = simp (le-ltb _ _ least, le-ltb _ _ most)
 
 module _ (file : List ℕ) (b s : ℕ) where
   refused : {reason : Reason} → firstFault fileChecks (offer file b s) ≡ Fails (fault reason inBatch 0) → NotRead reason ≡ openedOf file b s
@@ -47,23 +47,23 @@ module _ (file : List ℕ) (b s : ℕ) where
 
   pub too-large : 32808 < length file → NotRead FileSize ≡ openedOf file b s
   unfolding fileChecks
-  too-large h = let k : 40 ≤ length file = omega arith in refused (first _ _ _ ∙ last _ _ (simp (le-ltb _ _ k, lt-ltb _ _ h)))
+  too-large h = let least : 40 ≤ length file = omega arith in refused (first _ _ _ ∙ last _ _ (simp (le-ltb _ _ least, lt-ltb _ _ h)))
 
-  module _ (k : 40 ≤ length file) (h : length file ≤ 32808) where
+  module _ (least : 40 ≤ length file) (most : length file ≤ 32808) where
     pub wrong-distance : distanceWrong (alone file) ≡ true → NotRead FileDistance ≡ openedOf file b s
     unfolding fileChecks
-    wrong-distance d = refused (first _ _ _ ∙ next _ _ _ (rw (size-right _ k h)) ∙ last _ _ (rw d))
+    wrong-distance d = refused (first _ _ _ ∙ next _ _ _ (rw (size-right _ least most)) ∙ last _ _ (rw d))
 
     pub wrong-counts : distanceWrong (alone file) ≡ false → fileCountsWrong (alone file) ≡ true → NotRead WrongCounts ≡ openedOf file b s
     unfolding fileChecks
-    wrong-counts d n = refused (first _ _ _ ∙ next _ _ _ (rw (size-right _ k h)) ∙ next _ _ _ (rw d) ∙ last _ _ (rw n))
+    wrong-counts d n = refused (first _ _ _ ∙ next _ _ _ (rw (size-right _ least most)) ∙ next _ _ _ (rw d) ∙ last _ _ (rw n))
 
     pub no-room : distanceWrong (alone file) ≡ false → fileCountsWrong (alone file) ≡ false → bufferShort (offer file b s) ≡ true
         → NotRead BufferShort ≡ openedOf file b s
     unfolding fileChecks
-    no-room d n r = refused (first _ _ _ ∙ next _ _ _ (rw (size-right _ k h)) ∙ next _ _ _ (rw d) ∙ next _ _ _ (rw n) ∙ last _ _ (rw r))
+    no-room d n r = refused (first _ _ _ ∙ next _ _ _ (rw (size-right _ least most)) ∙ next _ _ _ (rw d) ∙ next _ _ _ (rw n) ∙ last _ _ (rw r))
 
     pub all-right : {contents : Contents} → distanceWrong (alone file) ≡ false → fileCountsWrong (alone file) ≡ false → bufferShort (offer file b s) ≡ false
         → contents ≡ contentsOf (trailerOf file) → Holds contents ≡ openedOf file b s
     unfolding openedOf fileChecks
-    all-right d n r e = rw (e, no-fault (offer file b s) fileChecks (rw (size-right _ k h), (rw d, (rw n, (rw r, tt)))))
+    all-right d n r e = rw (e, no-fault (offer file b s) fileChecks (rw (size-right _ least most), (rw d, (rw n, (rw r, tt)))))

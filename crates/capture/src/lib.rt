@@ -12,7 +12,13 @@ ghost use Rattle.rules.specs.File.{distanceWrong, fileCountsWrong, bufferShort,
 ghost use Rattle.rules.specs.File.{dwordsFrom, filled, FileRead};
 ghost use Rattle.capture.specs.Offers.{offer, alone};
 
-// Where the dwords that follow the trailer's three addresses stand in it.
+const TRAILER_BYTES: usize = 40;
+
+const LARGEST_FILE: usize = 32808;
+
+const LARGEST_COUNT: u32 = 4096;
+
+// Four places in the trailer: the dwords behind its three addresses.
 const SCRATCH_BYTES: usize = 24;
 
 const BATCH_COUNT: usize = 28;
@@ -54,7 +60,7 @@ fn trailer_word(file: &[u8], place: usize) -> u32
     requires { ⌜ (trailerBytes ≤ length (now file)) × (place + 4 ≤ trailerBytes) ⌝ }
     ensures { λ r. ⌜ r ≡ word (now (file .entry)) (length (now (file .entry)) - trailerBytes + place) ⌝ }
 {
-    let from = file.len() - 40;
+    let from = file.len() - TRAILER_BYTES;
     word_at(file, from + place)
 }
 
@@ -62,7 +68,7 @@ fn trailer(file: &[u8]) -> Contents
     requires { ⌜ trailerBytes ≤ length (now file) ⌝ }
     ensures { λ r. ⌜ r ≡ contentsOf (trailerOf (now (file .entry))) ⌝ }
 {
-    let from = file.len() - 40;
+    let from = file.len() - TRAILER_BYTES;
     Contents {
         batch: Filled {
             at: long_word_at(file, from),
@@ -80,31 +86,34 @@ fn trailer(file: &[u8]) -> Contents
 }
 
 // How long a file with these counts is. The sum is made in 64 bits, where it cannot wrap.
-fn length_for(batch: u32, state: u32) -> u64
+fn length_for(batch: u32, state: u32) -> usize
     ensures { λ r. ⌜ r ≡ trailerBytes + 4 * (batch + state) ⌝ }
 {
-    40 + 4 * (batch as u64 + state as u64)
+    TRAILER_BYTES + 4 * (batch as usize + state as usize)
 }
 
+// 20: the distance is not both the length of the file and what its counts come to.
 fn distance_wrong(file: &[u8]) -> bool
     requires { ⌜ trailerBytes ≤ length (now file) ⌝ }
     ensures { λ r. ⌜ r ≡ distanceWrong (alone (now (file .entry))) ⌝ }
 {
-    let told = trailer_word(file, DISTANCE) as u64;
+    let told = trailer_word(file, DISTANCE) as usize;
     let batch = trailer_word(file, BATCH_COUNT);
     let state = trailer_word(file, STATE_COUNT);
-    !((told == file.len() as u64) & (told == length_for(batch, state)))
+    !((told == file.len()) & (told == length_for(batch, state)))
 }
 
+// 1, for counts.
 fn counts_wrong(file: &[u8]) -> bool
     requires { ⌜ trailerBytes ≤ length (now file) ⌝ }
     ensures { λ r. ⌜ r ≡ fileCountsWrong (alone (now (file .entry))) ⌝ }
 {
     let batch = trailer_word(file, BATCH_COUNT);
     let state = trailer_word(file, STATE_COUNT);
-    (batch == 0) | ((4096 < batch) | (4096 < state))
+    (batch == 0) | ((LARGEST_COUNT < batch) | (LARGEST_COUNT < state))
 }
 
+// 21: a lent buffer is too short.
 fn buffer_short(file: &[u8], batch_room: usize, state_room: usize) -> bool
     requires { ⌜ trailerBytes ≤ length (now file) ⌝ }
     ensures { λ r. ⌜ r ≡ bufferShort (offer (now (file .entry)) «batch_room» «state_room») ⌝ }
@@ -118,10 +127,10 @@ fn buffer_short(file: &[u8], batch_room: usize, state_room: usize) -> bool
 fn examine(file: &[u8], batch_room: usize, state_room: usize) -> Opened
     ensures { λ r. ⌜ r ≡ openedOf (now (file .entry)) «batch_room» «state_room» ⌝ }
 {
-    if file.len() < 40 {
+    if file.len() < TRAILER_BYTES {
         return Opened::NotRead(Reason::FileSize);
     }
-    if 32808 < file.len() {
+    if LARGEST_FILE < file.len() {
         return Opened::NotRead(Reason::FileSize);
     }
     if distance_wrong(file) {

@@ -9,6 +9,9 @@ ghost use Rattle.rules.specs.Printout.{digitsOf, decimal, answerLine, commandLi
 ghost use Rattle.rules.specs.Records.{commandOf};
 ghost use Rattle.printout.specs.Lines.{Put, Line};
 
+// A number of 64 bits has at most 20 digits.
+const MOST_DIGITS: usize = 20;
+
 // One byte at a place. Like every function here that writes, it answers the place behind what it wrote.
 fn put_byte(out: &mut [u8], at: usize, byte: u8) -> usize
     requires { ⌜ at < length (now out) ⌝ }
@@ -53,7 +56,7 @@ fn put_labelled(out: &mut [u8], at: usize, label: &[u8], n: u32) -> usize
         ⌜ Put at (length (now (label .entry)) + 20) (now (label .entry) ++ decimal n) (now (out .entry)) r (now (out .exit)) ⌝ }
 {
     let number = put_text(out, at, label);
-    put_digits(out, number, 20, n as usize)
+    put_digits(out, number, MOST_DIGITS, n as usize)
 }
 
 // A number and the byte that ends it: a space, or the line feed.
@@ -61,11 +64,11 @@ fn put_column(out: &mut [u8], at: usize, n: usize, end: u8) -> usize
     requires { ⌜ at + 21 ≤ length (now out) ⌝ }
     ensures { λ r. ⌜ Put at 21 (decimal n ++ (end ∷ [])) (now (out .entry)) r (now (out .exit)) ⌝ }
 {
-    let behind = put_digits(out, at, 20, n);
+    let behind = put_digits(out, at, MOST_DIGITS, n);
     put_byte(out, behind, end)
 }
 
-// The answer's line, from byte 0 on, and its length.
+// The answer's line, from byte 0 on, and its length. 128 bytes hold every line: four labels, four numbers and a line feed are 113 at most.
 pub fn answer_line(out: &mut [u8; 128], answer: Answer) -> usize
     ensures { λ r. ⌜ Line (answerLine answer) (now (out .entry)) r (now (out .exit)) ⌝ }
 {
@@ -82,10 +85,10 @@ fn command(word: u32) -> Command
 {
     let bits = word as usize;
     Command {
-        index: bits % 4096,
-        level: bits / 4096 % 2,
-        row: bits / 16777216 % 256,
-        length: bits / 65536 % 256,
+        index: bits % 0x1000,
+        level: bits / 0x1000 % 2,
+        row: bits / 0x1000000 % 0x100,
+        length: bits / 0x10000 % 0x100,
     }
 }
 
