@@ -1,0 +1,4 @@
+pub mod Filling
+pub mod Opening
+pub mod Reading
+pub mod Unique

@@ -1,0 +1,109 @@
+// The printout, in decimal and ASCII: the line of an answer, and the line of a record.
+use rules::Answer;
+use rules::Command;
+ghost use mathlib.Core.Path.{_≡_};
+ghost use mathlib.Core.List.{[], _∷_, _++_};
+ghost use Prim.Native.Nat.{_+_, _≤_, _<_};
+ghost use lib.ListN.{length};
+ghost use Rattle.rules.specs.Printout.{digitsOf, decimal, answerLine, commandLine, recordLine};
+ghost use Rattle.rules.specs.Records.{commandOf};
+ghost use Rattle.printout.specs.Lines.{Put, Line};
+
+// A number of 64 bits has at most 20 digits.
+const MOST_DIGITS: usize = 20;
+
+// One byte at a place. Like every function here that writes, it answers the place behind what it wrote.
+fn put_byte(out: &mut [u8], at: usize, byte: u8) -> usize
+    requires { ⌜ at < length (now out) ⌝ }
+    ensures { λ r. ⌜ Put at 1 (byte ∷ []) (now (out .entry)) r (now (out .exit)) ⌝ }
+{
+    out[at] = byte;
+    at + 1
+}
+
+fn put_text(out: &mut [u8], at: usize, text: &[u8]) -> usize
+    requires { ⌜ at + length (now text) ≤ length (now out) ⌝ }
+    ensures { λ r. ⌜ Put at (length (now (text .entry))) (now (text .entry)) (now (out .entry)) r (now (out .exit)) ⌝ }
+{
+    let mut i = 0;
+    while i < text.len() {
+        out[at + i] = text[i];
+        i += 1;
+    }
+    at + i
+}
+
+// The last `most` digits of n, the highest first and with no leading zero.
+fn put_digits(out: &mut [u8], at: usize, most: usize, n: usize) -> usize
+    requires { ⌜ at + most ≤ length (now out) ⌝ }
+    ensures { λ r. ⌜ Put at most (digitsOf most n) (now (out .entry)) r (now (out .exit)) ⌝ }
+{
+    if most == 0 {
+        return at;
+    }
+    let digit = 48 + (n % 10) as u8;
+    if n < 10 {
+        return put_byte(out, at, digit);
+    }
+    let last = put_digits(out, at, most - 1, n / 10);
+    put_byte(out, last, digit)
+}
+
+// A number behind its label: "reason 0".
+fn put_labelled(out: &mut [u8], at: usize, label: &[u8], n: u32) -> usize
+    requires { ⌜ at + (length (now label) + 20) ≤ length (now out) ⌝ }
+    ensures { λ r.
+        ⌜ Put at (length (now (label .entry)) + 20) (now (label .entry) ++ decimal n) (now (out .entry)) r (now (out .exit)) ⌝ }
+{
+    let number = put_text(out, at, label);
+    put_digits(out, number, MOST_DIGITS, n as usize)
+}
+
+// A number and the byte that ends it: a space, or the line feed.
+fn put_column(out: &mut [u8], at: usize, n: usize, end: u8) -> usize
+    requires { ⌜ at + 21 ≤ length (now out) ⌝ }
+    ensures { λ r. ⌜ Put at 21 (decimal n ++ (end ∷ [])) (now (out .entry)) r (now (out .exit)) ⌝ }
+{
+    let behind = put_digits(out, at, MOST_DIGITS, n);
+    put_byte(out, behind, end)
+}
+
+// The answer's line, from byte 0 on, and its length. 128 bytes hold every line: four labels, four numbers and a line feed are 113 at most.
+pub fn answer_line(out: &mut [u8; 128], answer: Answer) -> usize
+    ensures { λ r. ⌜ Line (answerLine answer) (now (out .entry)) r (now (out .exit)) ⌝ }
+{
+    let window = put_labelled(out, 0, b"reason ", answer.reason);
+    let index = put_labelled(out, window, b" window ", answer.window);
+    let count = put_labelled(out, index, b" index ", answer.index);
+    let end = put_labelled(out, count, b" commands ", answer.count);
+    put_byte(out, end, b'\n')
+}
+
+// What a record says.
+fn command(word: u32) -> Command
+    ensures { λ r. ⌜ r ≡ commandOf word ⌝ }
+{
+    let bits = word as usize;
+    Command {
+        index: bits % 0x1000,
+        level: bits / 0x1000 % 2,
+        row: bits / 0x1000000 % 0x100,
+        length: bits / 0x10000 % 0x100,
+    }
+}
+
+fn command_line(out: &mut [u8; 128], c: Command) -> usize
+    ensures { λ r. ⌜ Line (commandLine c) (now (out .entry)) r (now (out .exit)) ⌝ }
+{
+    let level = put_column(out, 0, c.index, b' ');
+    let row = put_column(out, level, c.level, b' ');
+    let length = put_column(out, row, c.row, b' ');
+    put_column(out, length, c.length, b'\n')
+}
+
+// A record's line, from byte 0 on, and its length.
+pub fn record_line(out: &mut [u8; 128], word: u32) -> usize
+    ensures { λ r. ⌜ Line (recordLine word) (now (out .entry)) r (now (out .exit)) ⌝ }
+{
+    command_line(out, command(word))
+}
