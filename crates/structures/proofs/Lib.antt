@@ -1,0 +1,5 @@
+pub mod BitRules
+pub mod ValueRules
+pub mod Judging
+pub mod Reading
+pub mod Unique

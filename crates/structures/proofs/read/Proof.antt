@@ -1,0 +1,34 @@
+-- `structures::read` meets its contract: the verdict on what the lookup finds.
+-- Assumes nothing.
+use mathlib.Core.Path.{sym, _∙_}
+use borrow.Author.Needs.{needs}
+use Rattle.structures.proofs.Judging.{values-well}
+use Rattle.structures.proofs.Reading.{ends-below, reading-is}
+use Rattle.structures.proofs.read.Statement.{statement}
+use Rattle.structures.proofs.read.Tie as tie
+
+judged-requires : tie.Need-judged-requires
+judged-requires c κs =
+    ends-below _ _ _ _ _ _ _ (c .before .before .dwords-of .ensures) (c .before .held-in .ensures) (search needs) (search needs) (search needs)
+
+values-requires : tie.Need-values-requires
+values-requires c κs = values-well _ (sym (c .before .before .judged .ensures) ∙ c .enum-told .given .1)
+
+returns : tie.Need-returns
+returns c =
+    let j = c .before .before .before in
+    c .values .ensures
+    ∙ reading-is _ _ _ _ _ _ _ (j .before .before .before .dwords-of .ensures) (j .before .before .held-in .ensures)
+    (j .before .structure .ensures) (sym (c .before .enum-told .given .1) ∙ j .judged .ensures)
+
+returns-2 : tie.Need-returns-2
+returns-2 c =
+    let j = c .before .before .before in
+    reading-is _ _ _ _ _ _ _ (j .before .before .before .dwords-of .ensures) (j .before .before .held-in .ensures)
+    (j .before .structure .ensures) (sym (c .before .f .given .1) ∙ j .judged .ensures)
+
+pub read-spec : {M : Type 1} → statement M
+read-spec =
+    tie.close
+    (tie.spec (λ c κs. search needs) (λ c κs. search needs) (λ c κs. search needs) judged-requires (λ c. search needs) values-requires
+    (λ c. search needs) returns returns-2)

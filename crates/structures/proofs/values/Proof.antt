@@ -1,0 +1,43 @@
+-- `structures::values` meets its contract: none of the values is a NaN.
+-- Assumes nothing.
+use borrow.Author.Needs.{needs}
+use Rattle.structures.proofs.ValueRules.{depth-is-one, colour-is-one}
+use Rattle.structures.proofs.values.Statement.{statement}
+use Rattle.structures.proofs.values.Tie as tie
+
+value-requires : tie.Need-value-requires
+value-requires c κs = depth-is-one _ 0 (search needs) (c .enum-told .given .1) (c .before .before .before .pre)
+
+value-requires-2 : tie.Need-value-requires-2
+value-requires-2 c κs = depth-is-one _ 1 (search needs) (c .before .enum-told .given .1) (c .before .before .before .before .pre)
+
+value-requires-3 : tie.Need-value-requires-3
+value-requires-3 c κs = colour-is-one _ 2 (search needs) (search needs) (c .enum-told2 .given .1) (c .before .before .before .pre)
+
+value-requires-4 : tie.Need-value-requires-4
+value-requires-4 c κs = colour-is-one _ 3 (search needs) (search needs) (c .before .enum-told2 .given .1) (c .before .before .before .before .pre)
+
+value-requires-5 : tie.Need-value-requires-5
+value-requires-5 c κs = colour-is-one _ 4 (search needs) (search needs) (c .before .before .enum-told2 .given .1) (c .before .before .before .before .before .pre)
+
+value-requires-6 : tie.Need-value-requires-6
+value-requires-6 c κs = colour-is-one _ 5 (search needs) (search needs) (c .before .before .before .enum-told2 .given .1) (c .before .before .before .before .before .before .pre)
+
+returns : tie.Need-returns
+returns c = rw (c .before .before .enum-told .given .1, c .before .value .ensures, c .value2 .ensures)
+
+returns-2 : tie.Need-returns-2
+returns-2 c =
+    rw (
+      c .before .before .before .before .enum-told2 .given .1,
+      c .before .before .before .value3 .ensures,
+      c .before .before .value4 .ensures,
+      c .before .value5 .ensures,
+      c .value6 .ensures,
+    )
+
+pub values-spec : {M : Type 1} → statement M
+values-spec =
+    tie.close
+    (tie.spec (λ c. search needs) value-requires value-requires-2 (λ c. search needs) value-requires-3 value-requires-4 value-requires-5
+    value-requires-6 returns returns-2)

@@ -1,0 +1,212 @@
+// Reading a state structure: a depth range, a colour state, or why there is none.
+ghost use mathlib.Core.Path.{_≡_};
+ghost use mathlib.Core.Bool.{false};
+ghost use mathlib.Core.List.{[], _∷_};
+ghost use Prim.Native.Nat.{_+_, _^_, _<_};
+ghost use lib.ListN.{getD};
+ghost use Rattle.rules.specs.declared.Found.the-variants.{Nothing};
+ghost use Rattle.rules.specs.Words.{firstOf};
+ghost use Rattle.rules.specs.Refusals.{fault, firstFault};
+ghost use Rattle.rules.specs.Structures.{layoutOf, structureBitWrong, structureValueWrong, depthWrong, colourWrong, single, isNan};
+ghost use Rattle.rules.specs.Structures.{nowhere, heldWindow, heldFrom, structureChecks, valuesOf, readAt};
+use rules::Fault;
+use rules::Found;
+use rules::Held;
+use rules::Kind;
+use rules::Reading;
+use rules::Reason;
+use rules::Verdict;
+
+// The bits that the first dword of a colour state allows. Every other dword of a structure is free.
+const COLOUR_BITS: u32 = 0xFFFF_8001;
+
+fn dwords_of(kind: Kind) -> usize
+    ensures { λ r. ⌜ r ≡ layoutOf kind .dwords ⌝ }
+{
+    match kind {
+        Kind::Viewport => 2,
+        Kind::ColourCalc => 6,
+    }
+}
+
+// Dword k of a structure; 0 past its end.
+fn dword(d: &[u32], k: usize) -> u32
+    ensures { λ r. ⌜ r ≡ getD (now (d .entry)) k 0 ⌝ }
+{
+    if k < d.len() { d[k] } else { 0 }
+}
+
+// Whether the bits are a NaN's: without the sign they are above an infinity's.
+pub fn is_nan(bits: u32) -> bool
+    ensures { λ r. ⌜ r ≡ isNan bits ⌝ }
+{
+    bits & 0x7FFF_FFFF > 0x7F80_0000
+}
+
+// Dword k of a structure as a value, where it is one.
+fn value(d: &[u32], k: usize) -> f32
+    requires { ⌜ isNan (getD (now d) k 0) ≡ false ⌝ }
+    ensures { λ r. ⌜ r ≡ single (getD (now (d .entry)) k 0) ⌝ }
+{
+    f32::from_bits(dword(d, k))
+}
+
+// The first dword with a bit that is not allowed.
+fn first_bit(kind: Kind, d: &[u32]) -> Found
+    ensures { λ r. ⌜ r ≡ firstOf (structureBitWrong kind (now (d .entry))) (layoutOf kind .dwords) ⌝ }
+{
+    match kind {
+        Kind::Viewport => Found::Nothing,
+        Kind::ColourCalc => {
+            if words::allowed(dword(d, 0), COLOUR_BITS) {
+                Found::Nothing
+            } else {
+                Found::At(0)
+            }
+        }
+    }
+}
+
+// The first of two depths that is a NaN; else the maximum, if it is below the minimum.
+fn first_depth(minimum: u32, maximum: u32) -> Found
+    ensures { λ r. ⌜ r ≡ firstOf (depthWrong (minimum ∷ maximum ∷ [])) 2 ⌝ }
+{
+    if is_nan(minimum) {
+        return Found::At(0);
+    }
+    if is_nan(maximum) {
+        return Found::At(1);
+    }
+    let low = f32::from_bits(minimum);
+    let high = f32::from_bits(maximum);
+    if low <= high {
+        Found::Nothing
+    } else {
+        Found::At(1)
+    }
+}
+
+// The first NaN of a blend constant.
+fn first_colour(d: &[u32]) -> Found
+    ensures { λ r. ⌜ r ≡ firstOf (colourWrong (now (d .entry))) 6 ⌝ }
+{
+    let mut k = 2;
+    while k < 6 {
+        if is_nan(dword(d, k)) {
+            return Found::At(k);
+        }
+        k += 1;
+    }
+    Found::Nothing
+}
+
+// The first dword that breaks a value rule.
+fn first_value(kind: Kind, d: &[u32]) -> Found
+    ensures { λ r. ⌜ r ≡ firstOf (structureValueWrong kind (now (d .entry))) (layoutOf kind .dwords) ⌝ }
+{
+    match kind {
+        Kind::Viewport => first_depth(dword(d, 0), dword(d, 1)),
+        Kind::ColourCalc => first_colour(d),
+    }
+}
+
+fn is_nowhere(held: Held) -> bool
+    ensures { λ r. ⌜ r ≡ nowhere held ⌝ }
+{
+    match held {
+        Held::InBatch(_) => false,
+        Held::InState(_) => false,
+        Held::Nowhere => true,
+    }
+}
+
+fn window_of(held: Held) -> usize
+    ensures { λ r. ⌜ r ≡ heldWindow held ⌝ }
+{
+    match held {
+        Held::InBatch(_) => 0,
+        Held::InState(_) => 1,
+        Held::Nowhere => 0,
+    }
+}
+
+fn start_of(held: Held) -> usize
+    ensures { λ r. ⌜ r ≡ heldFrom held ⌝ }
+{
+    match held {
+        Held::InBatch(from) => from,
+        Held::InState(from) => from,
+        Held::Nowhere => 0,
+    }
+}
+
+// What is wrong with dword k of a structure, at its place in the window that holds it.
+fn fault_at(reason: Reason, held: Held, k: usize) -> Fault
+    requires { ⌜ heldFrom held + k < 2 ^ 64 ⌝ }
+    ensures { λ r. ⌜ r ≡ fault reason (heldWindow held) (heldFrom held + k) ⌝ }
+{
+    let window = window_of(held);
+    let index = start_of(held) + k;
+    Fault {
+        reason,
+        window,
+        index,
+    }
+}
+
+// Numbers 15 to 17, in that order.
+fn judged(kind: Kind, held: Held, d: &[u32], pointer: usize) -> Verdict
+    requires { ⌜ heldFrom held + layoutOf kind .dwords < 2 ^ 64 ⌝ }
+    ensures { λ r. ⌜
+        r ≡ firstFault structureChecks (record { kind = kind; held = held; dwords = now (d .entry); pointer = pointer })
+        ⌝ }
+{
+    if is_nowhere(held) {
+        return Verdict::Fails(Fault {
+            reason: Reason::StructureNowhere,
+            window: 0,
+            index: pointer,
+        });
+    }
+    if let Found::At(k) = first_bit(kind, d) {
+        return Verdict::Fails(fault_at(Reason::StructureBit, held, k));
+    }
+    if let Found::At(k) = first_value(kind, d) {
+        return Verdict::Fails(fault_at(Reason::StructureValue, held, k));
+    }
+    Verdict::Pass
+}
+
+// The values of a structure that breaks no value rule.
+fn values(kind: Kind, d: &[u32]) -> Reading
+    requires { ⌜ firstOf (structureValueWrong kind (now d)) (layoutOf kind .dwords) ≡ Nothing ⌝ }
+    ensures { λ r. ⌜ r ≡ valuesOf kind (now (d .entry)) ⌝ }
+{
+    match kind {
+        Kind::Viewport => Reading::Depths(value(d, 0), value(d, 1)),
+        Kind::ColourCalc => Reading::Colour(value(d, 2), value(d, 3), value(d, 4), value(d, 5)),
+    }
+}
+
+// The structure at the address: its values, or its refusal. The pointer is the batch dword that points to it.
+pub fn read<'a>(
+    batch: &'a [u32],
+    batch_at: u64,
+    state: &'a [u32],
+    state_at: u64,
+    kind: Kind,
+    address: u64,
+    pointer: usize,
+) -> Reading
+    ensures { λ r. ⌜
+        r ≡ readAt (now (batch .entry)) «batch_at» (now (state .entry)) «state_at» kind address pointer
+        ⌝ }
+{
+    let n = dwords_of(kind);
+    let held = windows::held_in(batch, batch_at, state, state_at, address, n);
+    let d = windows::structure(batch, batch_at, state, state_at, address, n);
+    match judged(kind, held, d, pointer) {
+        Verdict::Pass => values(kind, d),
+        Verdict::Fails(f) => Reading::Unreadable(f),
+    }
+}
