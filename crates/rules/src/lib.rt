@@ -89,7 +89,7 @@ pub enum Kind {
 // Whether a command points to a structure: which, and how many bytes above the dynamic state base.
 pub enum Pointer {
     NoPointer,
-    PointsTo(Kind, u64),
+    PointsTo(Kind, u32),
 }
 
 // What reading a structure gives back: a depth range, a colour state, or its refusal.

@@ -1,0 +1,26 @@
+// The record of a command, and the word that it is written to.
+ghost use mathlib.Core.Path.{_≡_};
+ghost use Prim.Native.Nat.{_<_};
+ghost use lib.ListN.{length, set};
+ghost use Rattle.rules.specs.Records.{recordOf};
+ghost use Rattle.walk.specs.Parts.{Recordable};
+use rules::Command;
+
+pub fn record_of(c: Command) -> u32
+    requires { ⌜ Recordable c ⌝ }
+    ensures { λ r. ⌜ r ≡ recordOf c ⌝ }
+{
+    let index = c.index as u32;
+    let level = c.level as u32;
+    let length = c.length as u32;
+    let row = c.row as u32;
+    index + 0x1000 * level + 0x1_0000 * length + 0x100_0000 * row
+}
+
+// Writes one record to the first word of what is left of the record buffer.
+pub fn write_record(tail: &mut [u32], word: u32)
+    requires { ⌜ 0 < length (now tail) ⌝ }
+    ensures { λ _. ⌜ now (tail .exit) ≡ set (now (tail .entry)) 0 word ⌝ }
+{
+    tail[0] = word;
+}
