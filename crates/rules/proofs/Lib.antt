@@ -10,3 +10,5 @@ pub mod Versions
 pub mod Running
 pub mod Depths
 pub mod Unique
+pub mod Places
+pub mod Recording

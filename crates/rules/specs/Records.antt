@@ -1,5 +1,5 @@
 -- Document 01, the records: "A record is one word: index in bits 11:0, level in bit 12, total length in 23:16, table row in 31:24, others zero."
-use Prim.Native.Nat.{ℕ, _+_, _*_, _^_}
+use Prim.Native.Nat.{ℕ, _+_, _*_, _^_, _<_}
 use mathlib.Core.Path.{_≡_}
 use mathlib.Core.List.{List, [], _∷_, _++_}
 use lib.ListN.{length, drop}
@@ -18,6 +18,13 @@ recordOf c = c .index + 2 ^ 12 * c .level + 2 ^ 16 * c .length + 2 ^ 24 * c .row
 -- and back
 unfoldable pub commandOf : ℕ → Command
 commandOf w = record { index = field w 11 0; level = field w 12 12; row = field w 31 24; length = field w 23 16 }
+
+-- a command whose numbers fit their bits
+pub record Recordable (c : Command) : Type 0 where
+  pub index : c .index < 2 ^ 12
+  pub level : c .level < 2
+  pub length : c .length < 2 ^ 8
+  pub row : c .row < 2 ^ 8
 
 -- the words of a list of commands
 unfoldable pub wordsOf : List Command → List ℕ

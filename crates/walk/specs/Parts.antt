@@ -10,7 +10,6 @@ use Rattle.rules.specs.declared.Level.{Level}
 use Rattle.rules.specs.declared.Base.{Base}
 use Rattle.rules.specs.declared.Base.the-variants.{Set}
 use Rattle.rules.specs.declared.Cursor.{Cursor}
-use Rattle.rules.specs.declared.Command.{Command}
 use Rattle.rules.specs.declared.After.{After}
 use Rattle.rules.specs.declared.After.the-variants.{To}
 use Rattle.rules.specs.declared.Pointer.{Pointer}
@@ -79,10 +78,3 @@ moveFrom at s r d next =
     cond (eqb r endRow) (afterEnd (s .level) (s .base))
     (cond (eqb r startRow) (To (cursor ((addressAt d 1 - at) / 4) (levelAfterStart (getD d 0 0) next (s .level)) (s .base)))
     (To (cursor next (s .level) (baseAfter r d (s .base)))))
-
--- a command whose numbers fit a record
-pub record Recordable (c : Command) : Type 0 where
-  pub index : c .index < 2 ^ 12
-  pub level : c .level < 2
-  pub length : c .length < 2 ^ 8
-  pub row : c .row < 2 ^ 8

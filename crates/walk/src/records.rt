@@ -2,8 +2,7 @@
 ghost use mathlib.Core.Path.{_≡_};
 ghost use Prim.Native.Nat.{_<_};
 ghost use lib.ListN.{length, set};
-ghost use Rattle.rules.specs.Records.{recordOf};
-ghost use Rattle.walk.specs.Parts.{Recordable};
+ghost use Rattle.rules.specs.Records.{Recordable, recordOf};
 use rules::Command;
 
 pub fn record_of(c: Command) -> u32

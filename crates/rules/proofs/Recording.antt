@@ -1,0 +1,114 @@
+-- A record names its command: every command of the walk fits a record, and is read back from it.
+-- Assumes nothing.
+use Prim.Native.Nat.{ℕ, _+_, _*_, _/_, _%_, _^_, _≤_, _<_}
+use native.Mathlib.Nat.{div-add-mod', mul-le-mul-right}
+use native.Mathlib.Omega.{arith}
+use mathlib.Core.Path.{_≡_, refl, sym, ap, _∙_}
+use mathlib.Core.Bool.{Bool, true, false, cond, _&&_}
+use mathlib.Core.List.{List}
+use lib.ListN.{length}
+use lib.Dec.{leb, eqb}
+use borrow.Author.Tests.{leb-true, eqb-true}
+use Rattle.rules.specs.declared.Level.{Level}
+use Rattle.rules.specs.declared.Level.the-variants.{First, Second}
+use Rattle.rules.specs.declared.Cursor.{Cursor}
+use Rattle.rules.specs.declared.Command.{Command}
+use Rattle.rules.specs.declared.After.{After}
+use Rattle.rules.specs.declared.Outcome.the-variants.{Taken}
+use Rattle.rules.specs.Words.{bit, field}
+use Rattle.rules.specs.Windows.{Capture}
+use Rattle.rules.specs.Commands.{Length, one, exactly, byBit, groups, rows, rowCount, theRow, dwordCount, fieldRight, lengthOf, groupSize, lengthRight}
+use Rattle.rules.specs.Step.{levelNumber, commandAt, stepOf}
+use Rattle.rules.specs.Records.{Recordable, recordOf, commandOf}
+use Rattle.rules.proofs.Searching.{and-left, and-right}
+use Rattle.rules.proofs.Tables.{each, at-each, rows-counted}
+use Rattle.rules.proofs.Stepping.{passed, took}
+
+-- a length rule that never gives 254 dwords or more behind two
+short : Length → ℕ → Bool
+short one size = true
+short (exactly f) size = leb f 253
+short (byBit b f g) size = leb f 253 && leb g 253
+short (groups n) size = leb 1 size && leb (n * size) 254
+
+shorts-tested : each (λ r. short (theRow r .total) (groupSize r)) rowCount ≡ true
+unfolding each rows rowCount theRow groupSize short
+shorts-tested = refl
+
+either-field : (t : Bool) (f g x : ℕ) → x ≡ cond t g f → f ≤ 253 → g ≤ 253 → x ≤ 253
+either-field true f g x e p q = omega arith
+either-field false f g x e p q = omega arith
+
+whole-groups : (x size n : ℕ) → (x + 1) % size ≡ 0 → (x + 1) / size ≤ n → n * size ≤ 254 → x ≤ 253
+whole-groups x size n e l h =
+    let d = div-add-mod' (x + 1) size in
+    let m : (x + 1) / size * size ≤ n * size = mul-le-mul-right size l in
+    omega arith
+
+short-counted : (t : Length) (size header : ℕ) → short t size ≡ true → fieldRight t size header ≡ true → dwordCount t header < 256
+unfolding short
+short-counted one size header s e = omega arith
+short-counted (exactly f) size header s e = let p = leb-true f 253 s in let q = eqb-true _ f e in omega arith
+short-counted (byBit b f g) size header s e =
+    let p = either-field (bit header b) f g (field header 7 0) (eqb-true _ _ e) (leb-true f 253 (and-left (leb f 253) _ s)) (leb-true g 253 (and-right (leb f 253) _ s)) in
+    omega arith
+short-counted (groups n) size header s e =
+    let x = field header 7 0 in
+    let i = and-right (eqb ((x + 1) % size) 0) _ e in
+    let p = whole-groups x size n (eqb-true _ 0 (and-left (eqb ((x + 1) % size) 0) _ e)) (leb-true _ n (and-right (leb 1 ((x + 1) / size)) _ i)) (leb-true (n * size) 254 (and-right (leb 1 size) _ s)) in
+    omega arith
+
+pub length-fits : (r header : ℕ) → r < rowCount → lengthRight r header ≡ true → lengthOf r header < 256
+unfolding lengthRight lengthOf
+length-fits r header h e = short-counted (theRow r .total) (groupSize r) header (at-each (λ k. short (theRow k .total) (groupSize k)) rowCount shorts-tested r h) e
+
+level-fits : (l : Level) → levelNumber l < 2
+level-fits First = omega arith
+level-fits (Second back) = omega arith
+
+-- every command of the walk fits a record
+pub fits-record : (c : Capture) (s : Cursor) {k : Command} {a : After} → length (c .batch) ≤ 4096 → stepOf c s ≡ Taken k a → Recordable k
+unfolding commandAt
+fits-record c s l e =
+    let t = took c s e in
+    let p = passed c s (t .passes) in
+    let i = p .inside in
+    let r = p .known in
+    rw (t .command)
+    (record {
+      index = omega arith;
+      level = level-fits (s .level);
+      length = length-fits _ _ r (p .right);
+      row = omega (arith, rows-counted);
+    })
+
+-- the fields of a record, one after the other
+module _ (i l n r : ℕ) (hi : i < 4096) (hl : l < 2) (hn : n < 256) (hr : r < 256) where
+  word : ℕ
+  word = i + 2 ^ 12 * l + 2 ^ 16 * n + 2 ^ 24 * r
+
+  index-field : field word 11 0 ≡ i
+  unfolding word
+  index-field = let e : word / 1 ≡ i + 4096 * (l + 16 * n + 4096 * r) = omega arith in rw e (omega arith)
+
+  level-field : field word 12 12 ≡ l
+  unfolding word
+  level-field = let e : word / 4096 ≡ l + 2 * (8 * n + 2048 * r) = omega arith in rw e (omega arith)
+
+  length-field : field word 23 16 ≡ n
+  unfolding word
+  length-field = let e : word / 65536 ≡ n + 256 * r = omega arith in rw e (omega arith)
+
+  row-field : field word 31 24 ≡ r
+  unfolding word
+  row-field = let e : word / 16777216 ≡ r = omega arith in rw e (omega arith)
+
+-- and is read back from it
+pub reads-back : (k : Command) → Recordable k → commandOf (recordOf k) ≡ k
+unfolding commandOf recordOf word
+reads-back k r =
+    let p = index-field (k .index) (k .level) (k .length) (k .row) (r .index) (r .level) (r .length) (r .row) in
+    let q = level-field (k .index) (k .level) (k .length) (k .row) (r .index) (r .level) (r .length) (r .row) in
+    let s = row-field (k .index) (k .level) (k .length) (k .row) (r .index) (r .level) (r .length) (r .row) in
+    let t = length-field (k .index) (k .level) (k .length) (k .row) (r .index) (r .level) (r .length) (r .row) in
+    λ i. record { index = p i; level = q i; row = s i; length = t i }
