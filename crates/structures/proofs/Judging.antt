@@ -57,5 +57,6 @@ module _ (a : Asked) where
   values-well e = search-clear _ _ _ _ (all-pass a structureChecks e .1 .1 .0)
 
 -- a dword that a search finds is within what was searched
-pub found-below : (bad : ℕ → Bool) (n : ℕ) {k : ℕ} → firstOf bad n ≡ At k → (start limit : ℕ) → start + n < limit → start + k < limit
+pub found-below : (bad : ℕ → Bool) (n : ℕ) {k : ℕ}
+    → firstOf bad n ≡ At k → (start limit : ℕ) → start + n < limit → start + k < limit
 found-below bad n e start limit h = omega (arith, first-found bad 0 n e .below)

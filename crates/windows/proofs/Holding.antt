@@ -1,14 +1,12 @@
 -- Dwords that a window holds, and what is known where one of two windows holds them.
 -- Assumes nothing.
-use Prim.Native.Nat.{ℕ, _+_, _-_, _*_, _/_, _%_, _^_, _≤_, _<_}
-use mathlib.Core.Path.{_≡_, refl, sym}
+use Prim.Native.Nat.{ℕ, _+_, _-_, _*_, _%_, _^_, _≤_, _<_}
+use mathlib.Core.Path.{_≡_}
 use mathlib.Core.Bool.{Bool, true, false, cond}
 use mathlib.Core.Logic.{⊎-elim}
 use native.Mathlib.Omega.{arith}
 use borrow.Author.Tests.{eqb-true}
-use lib.Dec.{eqb}
 use Rattle.rules.specs.declared.Window.{Window}
-use Rattle.rules.specs.declared.Held.{Held}
 use Rattle.rules.specs.declared.Held.the-variants.{InBatch, InState, Nowhere}
 use Rattle.rules.specs.Windows.{lent, holds, holdsDwords, dwordOf, heldAt}
 use Rattle.rules.proofs.Searching.{either, and-left, and-right}

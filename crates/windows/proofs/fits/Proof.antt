@@ -1,6 +1,5 @@
 -- `windows::fits` meets its contract, by that of `words::holds` for each window that is allowed.
 -- Assumes nothing.
-use mathlib.Core.Path.{sym, _∙_}
 use borrow.Author.Needs.{needs}
 use mathlib.Core.Bool.{or-false}
 use Rattle.rules.specs.Words.{some}
