@@ -27,10 +27,10 @@ use Rattle.rules.proofs.Ranges.{Inside, in-batch}
 use Rattle.rules.proofs.Storing.{access-fits, start-reaches}
 
 -- what the constructors keep apart, and what they keep
-same-cursor : {u v : Cursor} → To u ≡ To v → u ≡ v
+pub same-cursor : {u v : Cursor} → To u ≡ To v → u ≡ v
 same-cursor q = cc
 
-ends-nowhere : {t : Cursor} → Ends ≡ To t → ⊥
+pub ends-nowhere : {t : Cursor} → Ends ≡ To t → ⊥
 ends-nowhere q = let z : _≡_ {A = ℕ} 0 1 = cc in omega arith
 
 first-keeps-none : {back : ℕ} → First ≡ Second back → ⊥

@@ -25,10 +25,10 @@ use Rattle.rules.specs.declared.Outcome.the-variants.{Refused}
 use Rattle.rules.specs.declared.Verdict.{Verdict}
 use Rattle.rules.specs.declared.Verdict.the-variants.{Pass, Fails}
 use Rattle.rules.specs.declared.Reason.{Reason}
-use Rattle.rules.specs.declared.Reason.the-variants.{RanOff, UnknownHeader, WrongLength, PastTheWindow, NestedStart}
-use Rattle.rules.specs.Words.{bit, firstOf}
+use Rattle.rules.specs.declared.Reason.the-variants.{WrongCounts, AddressUnaligned, EndsTooHigh, WindowsShare, RanOff, UnknownHeader, WrongLength, PastTheWindow, NestedStart}
+use Rattle.rules.specs.Words.{bit, some, someTwo, firstOf}
 use Rattle.rules.specs.Refusals.{inBatch, inState, fault, refuseIf, refuseFound, tried, firstFault}
-use Rattle.rules.specs.Windows.{Capture, lent, holds, holdsDwords, heldAt}
+use Rattle.rules.specs.Windows.{Capture, Lengths, windowLimit, listed, countsWrong, unaligned, endsTooHigh, shareByte, windowChecks, windowFault, lent, holds, holdsDwords, heldAt}
 use Rattle.rules.specs.Commands.{rows, rowCount, theRow, lengthOf, lengthRight}
 use Rattle.rules.specs.Structures.{Asked, askedAt, layoutOf, nowhere, heldWindow, heldFrom, structureNowhere, structureBit, structureValue}
 use Rattle.rules.specs.Step.{Here, here, headerAt, rowAt, lengthAt, dwordsAt, pointerOf, nested, baseMissing, pointed, ofStructure, ranOff, unknownHeader, wrongLength, pastTheWindow, bitNotAllowed, nestedStart, valueBroken, rangeOutside, baseNeverSet, stepChecks, stepOf}
@@ -226,3 +226,19 @@ module _ (c : Capture) (s : Cursor) (w : Within c s) where
       (λ x₁₇. absurd (none-fails h (x₁₇ .1))) (split h _ [] (x₁₆ .1))) (split h _ _ (x₁₅ .1))) (split h _ _ (x₁₄ .1))) (split h _ _ (x₁₃ .1)))
       (split h _ _ (x₁₂ .1))) (split h _ _ (x₁₁ .1))) (split h _ _ (x₁₀ .1))) (split h _ _ (x₉ .1))) (split h _ _ (x₈ .1))) (split h _ _ (x₇ .1)))
       (split h _ _ (x₆ .1))) (split h _ _ (refused-by c s e))
+
+-- the refusals that precede the walk have place 0,0
+pub window-place : (l : Lengths) {f : Fault} → windowFault l ≡ Fails f → (f .window ≡ 0) × (f .index ≡ 0)
+unfolding windowFault windowChecks
+window-place l e =
+    ⊎-elim (zeros (countsWrong windowLimit (l .batch) (l .state)) WrongCounts)
+    (λ x.
+    ⊎-elim (zeros (some unaligned (listed (l .windows))) AddressUnaligned)
+    (λ y.
+    ⊎-elim (zeros (some endsTooHigh (listed (l .windows))) EndsTooHigh)
+    (λ z.
+    ⊎-elim (zeros (someTwo shareByte (listed (l .windows))) WindowsShare) (λ n. absurd (none-fails l (n .1))) (split l _ [] (z .1))) (split l _ _ (y .1)))
+    (split l _ _ (x .1))) (split l _ _ e)
+  where
+    zeros : (t : Bool) (reason : Reason) {f : Fault} → refuseIf t (fault reason inBatch 0) ≡ Fails f → (f .window ≡ 0) × (f .index ≡ 0)
+    zeros t reason q = rw (← given-fault t q .1) (refl, refl)

@@ -15,7 +15,7 @@ use Rattle.rules.specs.declared.Windows.{Windows}
 use Rattle.rules.specs.declared.Allowed.the-variants.{BatchOnly, ScratchOnly, AnyWindow}
 use Rattle.rules.specs.declared.Verdict.the-variants.{Pass}
 use Rattle.rules.specs.Words.{some, someTwo}
-use Rattle.rules.specs.Windows.{Capture, window, listed, end, windowsOf, endsTooHigh, shareByte, windowChecks, lengthsOf, Lengths, windowFault, holds, windowsAllowed, fits}
+use Rattle.rules.specs.Windows.{Capture, windowLimit, countsWrong, window, listed, end, windowsOf, endsTooHigh, shareByte, windowChecks, lengthsOf, Lengths, windowFault, holds, windowsAllowed, fits}
 use Rattle.rules.proofs.Searching.{either, never-both, some-left, some-right, or-cases, and-left, and-right}
 use Rattle.rules.proofs.Trying.{all-pass, refuse-passes}
 
@@ -101,6 +101,18 @@ sound l e =
       ends = λ i h. ltb-false _ _ (none-at endsTooHigh noWindow (listed (l .windows)) (refuse-passes _ _ (p .1 .1 .0)) i h);
       apart = refuse-passes _ _ (p .1 .1 .1 .0);
     }
+
+-- and neither lent window has more dwords than the limit
+pub record Counted (l : Lengths) : Type 0 where
+  pub batch : l .batch ≤ windowLimit
+  pub state : l .state ≤ windowLimit
+
+pub counted : (l : Lengths) → windowFault l ≡ Pass → Counted l
+unfolding windowFault windowChecks countsWrong
+counted l e =
+    let p = refuse-passes _ _ (all-pass l windowChecks e .0) in
+    let q = some-right (eqb (l .batch) 0) _ p in
+    record { batch = ltb-false _ _ (some-left (ltb windowLimit (l .batch)) _ q); state = ltb-false _ _ (some-right (ltb windowLimit (l .batch)) _ q) }
 
 -- a range that fits lies in one of the windows that its rule allows, and there no sum reaches 2^64
 pub record Fitting (w : Windows) (address bytes : ℕ) : Type 0 where

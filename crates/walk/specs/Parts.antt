@@ -78,3 +78,8 @@ moveFrom at s r d next =
     cond (eqb r endRow) (afterEnd (s .level) (s .base))
     (cond (eqb r startRow) (To (cursor ((addressAt d 1 - at) / 4) (levelAfterStart (getD d 0 0) next (s .level)) (s .base)))
     (To (cursor next (s .level) (baseAfter r d (s .base)))))
+
+-- the capture that a caller lends: two windows with their addresses, and the third by its numbers
+abbrev pub captureOf : List ℕ → ℕ → List ℕ → ℕ → ℕ → ℕ → Capture
+captureOf batch batchAt state stateAt scratchAt scratchBytes =
+    record { batch = batch; batchAt = batchAt; state = state; stateAt = stateAt; scratchAt = scratchAt; scratchBytes = scratchBytes }

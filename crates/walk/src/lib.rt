@@ -1,5 +1,141 @@
 // Does the capture run to its end, and what did it do on the way? The public call `check`, and the loop behind it.
+ghost use mathlib.Core.Path.{_≡_};
+ghost use Prim.Native.Nat.{_≤_};
+ghost use lib.ListN.{length};
+ghost use Rattle.rules.specs.declared.Reason.the-variants.{BudgetSpent, RecordsFull};
+ghost use Rattle.rules.specs.Refusals.{fault, inBatch};
+ghost use Rattle.rules.specs.Windows.{windowsOf};
+ghost use Rattle.rules.specs.Records.{Checked};
+ghost use Rattle.walk.specs.Parts.{captured, captureOf, Fitted, SmallBase, Ran};
+use answers::acceptance;
+use answers::refusal;
+use records::record_of;
+use records::write_record;
+use rules::After;
+use rules::Answer;
+use rules::Base;
+use rules::Cursor;
+use rules::Fault;
+use rules::Level;
+use rules::Outcome;
+use rules::Reason;
+use rules::Verdict;
+use rules::Window;
+use rules::Windows;
+use step::step;
+
+pub mod answers;
 mod faults;
 mod moves;
 mod records;
 mod step;
+
+// How many commands a run may have.
+const BUDGET: usize = 65536;
+
+// The run of a capture whose windows are sound, from its first dword on. The tables are copied here once, and lent down.
+fn run<'a>(
+    batch: &'a [u32],
+    state: &'a [u32],
+    w: Windows,
+    base: Base,
+    records: &mut [u32],
+) -> Answer
+    requires { ⌜ (Fitted w (now batch) (now state)) × (length (now batch) ≤ 4096) × (length (now state) ≤ 4096) × (SmallBase base) ⌝ }
+    ensures { λ r. ⌜ Ran base (captured w (now (batch .entry)) (now (state .entry))) (now (records .entry)) r (now (records .exit)) ⌝ }
+{
+    let masks = commands::masks::MASKS;
+    let formats = formats::SURFACE_FORMATS;
+    let mut n: usize = 0;
+    let mut s = Cursor {
+        at: 0,
+        level: Level::First,
+        base,
+    };
+    while n < BUDGET {
+        let at = s.at;
+        match step(batch, state, w, s, &masks, &formats) {
+            Outcome::Refused(f) => {
+                return refusal(f, n);
+            }
+            Outcome::Taken(command, after) => {
+                if records.len() <= n {
+                    return refusal(full(at), n);
+                }
+                write_record(&mut records[n..], record_of(command));
+                n += 1;
+                match after {
+                    After::Ends => {
+                        return acceptance(n);
+                    }
+                    After::To(t) => {
+                        s = t;
+                    }
+                }
+            }
+        }
+    }
+    refusal(spent(s.at), n)
+}
+
+// There is no room for the record of the command at the position.
+fn full(at: usize) -> Fault
+    ensures { λ r. ⌜ r ≡ fault RecordsFull inBatch at ⌝ }
+{
+    Fault {
+        reason: Reason::RecordsFull,
+        window: 0,
+        index: at,
+    }
+}
+
+// The budget is spent, and the run has come to the position.
+fn spent(at: usize) -> Fault
+    ensures { λ r. ⌜ r ≡ fault BudgetSpent inBatch at ⌝ }
+{
+    Fault {
+        reason: Reason::BudgetSpent,
+        window: 0,
+        index: at,
+    }
+}
+
+// The windows of a capture, as numbers.
+fn windows_of(
+    batch: &[u32],
+    batch_at: u64,
+    state: &[u32],
+    state_at: u64,
+    scratch_at: u64,
+    scratch_len: u32,
+) -> Windows
+    ensures { λ r. ⌜ r ≡ windowsOf (captureOf (now (batch .entry)) «batch_at» (now (state .entry)) «state_at» «scratch_at» «scratch_len») ⌝ }
+{
+    Windows {
+        batch: windows::lent(batch_at, batch),
+        state: windows::lent(state_at, state),
+        scratch: Window {
+            at: scratch_at,
+            bytes: scratch_len as u64,
+        },
+    }
+}
+
+// THE PUBLIC CALL: whether the capture runs to its end, and the records of its commands.
+pub fn check<'a>(
+    batch: &'a [u32],
+    batch_at: u64,
+    state: &'a [u32],
+    state_at: u64,
+    scratch_at: u64,
+    scratch_len: u32,
+    records: &mut [u32],
+) -> Answer
+    ensures { λ r. ⌜ Checked (captureOf (now (batch .entry)) «batch_at» (now (state .entry)) «state_at» «scratch_at» «scratch_len») (now (records .entry)) r (now (records .exit)) ⌝ }
+{
+    let w = windows_of(batch, batch_at, state, state_at, scratch_at, scratch_len);
+    if let Verdict::Fails(f) = windows::sound(batch.len(), state.len(), w) {
+        return refusal(f, 0);
+    }
+    run(batch, state, w, Base::Unset, records)
+}

@@ -1,0 +1,213 @@
+-- The loop of `run`: the commands done, their words in the record buffer, and what the walk has still to give.
+-- Assumes nothing.
+use Prim.Native.Nat.{ℕ, zero, suc, _+_, _-_, _*_, _^_, _≤_, _<_}
+use native.Mathlib.Nat.{add-zero, sub-zero}
+use native.Mathlib.Numerals.{add-one}
+use native.Mathlib.Omega.{arith}
+use mathlib.Core.Path.{_≡_, refl, sym, ap, _∙_}
+use mathlib.Core.Bool.{Bool, true, false, cond, _&&_}
+use mathlib.Core.List.{List, [], _∷_, _++_, append-assoc, append-nil}
+use mathlib.Core.Logic.{⊎-elim}
+use lib.ListN.{length, getD, drop, set, length-append, length-drop, length-set}
+use lib.Dec.{eqb}
+use lib.Seq.{drop-cons, set-at}
+use borrow.Rule.Slice.PartMut.{putMid, midOf, mid-len, set-mid-at}
+use Rattle.rules.specs.declared.Windows.{Windows}
+use Rattle.rules.specs.declared.Answer.{Answer}
+use Rattle.rules.specs.declared.Base.{Base}
+use Rattle.rules.specs.declared.Base.the-variants.{Unset, Set}
+use Rattle.rules.specs.declared.Level.the-variants.{First}
+use Rattle.rules.specs.declared.Cursor.{Cursor}
+use Rattle.rules.specs.declared.Command.{Command}
+use Rattle.rules.specs.declared.After.{After}
+use Rattle.rules.specs.declared.After.the-variants.{Ends, To}
+use Rattle.rules.specs.declared.Fault.{Fault}
+use Rattle.rules.specs.declared.Outcome.the-variants.{Taken, Refused}
+use Rattle.rules.specs.declared.Verdict.{Verdict}
+use Rattle.rules.specs.declared.Verdict.the-variants.{Pass, Fails}
+use Rattle.rules.specs.declared.Reason.the-variants.{BudgetSpent, RecordsFull}
+use Rattle.rules.specs.Words.{bit}
+use Rattle.rules.specs.Refusals.{inBatch, fault}
+use Rattle.rules.specs.Windows.{Capture, windowsOf, lengthsOf, windowFault}
+use Rattle.rules.specs.Step.{budget, baseRow, newBase, baseAfter, commandAt, stepOf}
+use Rattle.rules.specs.Walk.{Run, ended, then, trace, traceFrom, cut, start, commandsOf, endOf, answerWith, answerOf}
+use Rattle.rules.specs.Records.{recordOf, wordsOf, roomOf, writtenOf, Checked}
+use Rattle.rules.proofs.Unique.{words-counted}
+use Rattle.rules.proofs.Running.{follow, commands-follow, end-follows}
+use Rattle.rules.proofs.Stepping.{took}
+use Rattle.rules.proofs.Walking.{walk-sound, walk-unsound}
+use Rattle.rules.proofs.Places.{refusal-place}
+use Rattle.rules.proofs.Moving.{Within, Way, ends, returns, jumps, calls, goes-on, taken-way, same-cursor, ends-nowhere, stays-within, starts-within}
+use Rattle.walk.specs.Parts.{captured, Fitted, SmallBase, Ran}
+
+-- the commands done stand in the record buffer, the rest of it is as it came, and the walk is these commands and then the run r
+pub record SoFar (base : Base) (c : Capture) (old new : List ℕ) (n : ℕ) (r : Run) : Type 0 where
+  pub done : List Command
+  pub count : length done ≡ n
+  pub room : n ≤ length old
+  pub held : new ≡ wordsOf done ++ drop n old
+  pub gives : cut (length old) (traceFrom budget c (start base)) ≡ follow done r
+
+words-join : (ks ls : List Command) → wordsOf (ks ++ ls) ≡ wordsOf ks ++ wordsOf ls
+unfolding wordsOf
+words-join [] ls = refl
+words-join (k ∷ ks) ls = ap (λ l. recordOf k ∷ l) (words-join ks ls)
+
+follow-join : (ks ls : List Command) (r : Run) → follow (ks ++ ls) r ≡ follow ks (follow ls r)
+unfolding follow
+follow-join [] ls r = refl
+follow-join (k ∷ ks) ls r = ap (then k) (follow-join ks ls r)
+
+-- nothing more to give: the promise
+pub ran : {base : Base} {c : Capture} {old new : List ℕ} {n : ℕ} {v : Verdict} → SoFar base c old new n (ended v) → Ran base c old (answerWith v n) new
+unfolding answerOf writtenOf commandsOf endOf
+ran {old = old} {n = n} {v = v} s = record {
+  answers = rw (s .gives, end-follows (s .done) (ended v), commands-follow (s .done) (ended v), append-nil, s .count);
+  written = rw (s .gives, commands-follow (s .done) (ended v), append-nil, words-counted (s .done), s .count) (s .held);
+}
+
+-- one command more is done, and its record written
+pub wrote : {base : Base} {c : Capture} {old new : List ℕ} {n : ℕ} {k : Command} {r : Run} → SoFar base c old new n (then k r) → n < length old
+    → SoFar base c old (set new n (recordOf k)) (n + 1) r
+unfolding wordsOf follow
+wrote {old = old} {new = new} {n = n} {k = k} {r = r} s h = record {
+  done = s .done ++ (k ∷ []);
+  count = length-append (s .done) (k ∷ []) ∙ ap (λ (m : ℕ). m + 1) (s .count);
+  room = omega arith;
+  held =
+      ap (λ (l : List ℕ). set l n (recordOf k)) (s .held ∙ ap (λ (l : List ℕ). wordsOf (s .done) ++ l) (drop-cons old n 0 h))
+      ∙ set-at (wordsOf (s .done)) (getD old n 0) (drop (suc n) old) (recordOf k) n (words-counted (s .done) ∙ s .count)
+      ∙ rw (words-join (s .done) (k ∷ []), append-assoc, add-one);
+  gives = s .gives ∙ sym (follow-join (s .done) (k ∷ []) r);
+}
+
+-- the loop's head: n commands are done, and the walk stands at s, with what is left of the budget and of the room
+pub record Going (base : Base) (c : Capture) (old new : List ℕ) (n : ℕ) (s : Cursor) : Type 0 where
+  pub budgeted : n ≤ 65536
+  pub small : SmallBase (s .base)
+  pub within : Within c s
+  pub same : length new ≡ length old
+  pub so-far : SoFar base c old new n (cut (length old - n) (traceFrom (65536 - n) c s))
+
+left : (k n : ℕ) → n < k → k - n ≡ suc (k - (n + 1))
+left k n h = omega arith
+
+none-left : (k n : ℕ) → k ≤ n → k - n ≡ 0
+none-left k n h = omega arith
+
+-- a base that row 9 sets is below 2^48
+new-base-small : (d : List ℕ) → newBase d < 2 ^ 48
+new-base-small d = omega arith
+
+base-small : (r : ℕ) (d : List ℕ) {base : Base} → SmallBase base → SmallBase (baseAfter r d base)
+unfolding baseAfter
+base-small r d {base} s = by (eqb r baseRow && bit (getD d 6 0) 0)
+  where
+    same : {a b : ℕ} → Set a ≡ Set b → a ≡ b
+    same e = cc
+
+    by : (t : Bool) → SmallBase (cond t (Set (newBase d)) base)
+    by true = record { small = λ b e. omega (arith, same e, new-base-small d) }
+    by false = s
+
+small-next : (c : Capture) (s : Cursor) {k : Command} {t : Cursor} → SmallBase (s .base) → stepOf c s ≡ Taken k (To t) → SmallBase (t .base)
+small-next c s {k} {t} m e = by (To t) refl (taken-way c s e)
+  where
+    by : (a : After) → a ≡ To t → Way c s a → SmallBase (t .base)
+    by a q (ends r l) = absurd (ends-nowhere q)
+    by a q (returns r l) = rw (← same-cursor q) m
+    by a q (jumps r b) = rw (← same-cursor q) m
+    by a q (calls r b) = rw (← same-cursor q) m
+    by a q (goes-on r n) = rw (← same-cursor q) (base-small _ _ m)
+
+pub started : (base : Base) (c : Capture) (old : List ℕ) → SmallBase base → Going base c old old 0 (start base)
+unfolding wordsOf follow
+started base c old m = record {
+  budgeted = omega arith;
+  small = m;
+  within = starts-within c base;
+  same = refl;
+  so-far = record { done = []; count = refl; room = omega arith; held = refl; gives = ap (λ (k : ℕ). cut k (traceFrom budget c (start base))) (sym (sub-zero (length old))) };
+}
+
+-- what each way out of a turn, and the turn itself, makes of it
+module _ {base : Base} {c : Capture} {old new : List ℕ} {n : ℕ} {s : Cursor} (g : Going base c old new n s) where
+  pub out-of-budget : 65536 ≤ n → Ran base c old (answerWith (Fails (fault BudgetSpent inBatch (s .at))) n) new
+  unfolding trace cut
+  out-of-budget h = ran (rw (none-left 65536 n h) at (g .so-far))
+
+  pub refused : {f : Fault} → n < 65536 → stepOf c s ≡ Refused f → Ran base c old (answerWith (Fails f) n) new
+  unfolding trace cut
+  refused h e = ran (rw (left 65536 n h, e) at (g .so-far))
+
+  no-room : {k : Command} (a : After) → n < 65536 → length new ≤ n → stepOf c s ≡ Taken k a → SoFar base c old new n (ended (Fails (fault RecordsFull inBatch (k .index))))
+  unfolding trace cut
+  no-room Ends h l e = let z : length old ≤ n = omega (arith, g .same) in rw (left 65536 n h, none-left (length old) n z, e) at (g .so-far)
+  no-room (To t) h l e = let z : length old ≤ n = omega (arith, g .same) in rw (left 65536 n h, none-left (length old) n z, e) at (g .so-far)
+
+  index-is : {k : Command} {a : After} → stepOf c s ≡ Taken k a → k .index ≡ s .at
+  unfolding commandAt
+  index-is e = ap (λ (k : Command). k .index) (took c s e .command)
+
+  pub full : {k : Command} {a : After} → n < 65536 → length new ≤ n → stepOf c s ≡ Taken k a → Ran base c old (answerWith (Fails (fault RecordsFull inBatch (s .at))) n) new
+  full {a = a} h l e = rw (← index-is e) (ran (no-room a h l e))
+
+  pub last : {k : Command} → n < 65536 → n < length new → stepOf c s ≡ Taken k Ends → Ran base c old (answerWith Pass (n + 1)) (set new n (recordOf k))
+  unfolding trace cut
+  last h l e = let z : n < length old = omega (arith, g .same) in ran (wrote (rw (left 65536 n h, left (length old) n z, e) at (g .so-far)) z)
+
+  pub next : {k : Command} {t : Cursor} → n < 65536 → n < length new → stepOf c s ≡ Taken k (To t) → Going base c old (set new n (recordOf k)) (n + 1) t
+  unfolding trace cut
+  next h l e = let z : n < length old = omega (arith, g .same) in record {
+    budgeted = omega arith;
+    small = small-next c s (g .small) e;
+    within = stays-within c s (g .within) e;
+    same = length-set new n _ ∙ g .same;
+    so-far = wrote (rw (left 65536 n h, left (length old) n z, e) at (g .so-far)) z;
+  }
+
+-- a write to the first word of the tail from n on is a write at n
+pub tail-written : (n v : ℕ) (l : List ℕ) → n < length l → putMid n (length l - n) l (set (midOf n (length l - n) l) 0 v) ≡ set l n v
+tail-written n v l h =
+    let z : 0 < length (midOf n (length l - n) l) = simp (mid-len n (length l) l (omega arith)) (omega arith) in
+    rw (set-mid-at n (length l - n) 0 l v z, add-zero)
+
+-- the places that are answered fit 32 bits
+module _ {base : Base} {c : Capture} {old new : List ℕ} {n : ℕ} {s : Cursor} (g : Going base c old new n s) where
+  pub small-at : length (c .batch) ≤ 4096 → (0 < 2 ^ 32) × (s .at < 2 ^ 32) × (n < 2 ^ 32)
+  small-at l = let a = g .within .position in let b = g .budgeted in (omega arith, omega arith, omega arith)
+
+  pub small-place : {f : Fault} → length (c .batch) ≤ 4096 → length (c .state) ≤ 4096 → stepOf c s ≡ Refused f → (f .window < 2 ^ 32) × (f .index < 2 ^ 32) × (n < 2 ^ 32)
+  small-place l m e =
+      let b = g .budgeted in
+      ⊎-elim (λ q. (omega (arith, q .0), omega (arith, q .1), omega arith)) (λ q. (omega (arith, q .0), omega (arith, q .1), omega arith)) (refusal-place c s (g .within) e)
+
+-- behind the checks 1 to 4: the promise of the public call
+pub unsound : (c : Capture) (old : List ℕ) {f : Fault} → windowFault (lengthsOf c) ≡ Fails f → Checked c old (answerWith (Fails f) 0) old
+unfolding answerOf writtenOf commandsOf endOf wordsOf
+unsound c old e = record {
+  answers = rw (walk-unsound Unset c (roomOf (length old)) e);
+  written = rw (walk-unsound Unset c (roomOf (length old)) e);
+}
+
+pub sound : (c : Capture) (old : List ℕ) {r : Answer} {new : List ℕ} → windowFault (lengthsOf c) ≡ Pass → Ran Unset c old r new → Checked c old r new
+sound c old e p = record {
+  answers = rw (walk-sound Unset c (roomOf (length old)) e) (p .answers);
+  written = rw (walk-sound Unset c (roomOf (length old)) e) (p .written);
+}
+
+-- what the windows' numbers are known to be
+pub fitting : (c : Capture) {w : Windows} → w ≡ windowsOf c → Fitted w (c .batch) (c .state)
+unfolding windowsOf
+fitting c e = record { batchBytes = ap (λ (w : Windows). w .batch .bytes) e; stateBytes = ap (λ (w : Windows). w .state .bytes) e }
+
+pub captured-is : (c : Capture) {w : Windows} → w ≡ windowsOf c → captured w (c .batch) (c .state) ≡ c
+unfolding windowsOf
+captured-is c e = rw e
+
+pub no-base : SmallBase Unset
+no-base = record { small = λ b e. absurd (let z : _≡_ {A = ℕ} 0 1 = cc in omega arith) }
+
+pub judged : (c : Capture) {w : Windows} {v : Verdict} → w ≡ windowsOf c → v ≡ windowFault (record { batch = length (c .batch); state = length (c .state); windows = w })
+    → windowFault (lengthsOf c) ≡ v
+judged c e p = ap (λ (w : Windows). windowFault (record { batch = length (c .batch); state = length (c .state); windows = w })) (sym e) ∙ sym p
