@@ -1,3 +1,1 @@
-pub mod Contents
-pub mod Ways
 pub mod Looping

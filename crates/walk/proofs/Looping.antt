@@ -38,7 +38,8 @@ use Rattle.rules.proofs.Stepping.{took}
 use Rattle.rules.proofs.Walking.{walk-sound, walk-unsound}
 use Rattle.rules.proofs.Places.{refusal-place}
 use Rattle.rules.proofs.Moving.{Within, Way, ends, returns, jumps, calls, goes-on, taken-way, same-cursor, ends-nowhere, stays-within, starts-within}
-use Rattle.walk.specs.Parts.{captured, Fitted, SmallBase, Ran}
+use Rattle.step.specs.Parts.{captured, Fitted, SmallBase}
+use Rattle.walk.specs.Lent.{Ran}
 
 -- the commands done stand in the record buffer, the rest of it is as it came, and the walk is these commands and then the run r
 pub record SoFar (base : Base) (c : Capture) (old new : List ℕ) (n : ℕ) (r : Run) : Type 0 where

@@ -6,7 +6,8 @@ ghost use Rattle.rules.specs.declared.Reason.the-variants.{BudgetSpent, Records
 ghost use Rattle.rules.specs.Refusals.{fault, inBatch};
 ghost use Rattle.rules.specs.Windows.{windowsOf};
 ghost use Rattle.rules.specs.Records.{Checked};
-ghost use Rattle.walk.specs.Parts.{captured, captureOf, Fitted, SmallBase, Ran};
+ghost use Rattle.step.specs.Parts.{captured, Fitted, SmallBase};
+ghost use Rattle.walk.specs.Lent.{captureOf, Ran};
 use answers::acceptance;
 use answers::refusal;
 use records::record_of;
@@ -25,10 +26,7 @@ use rules::Windows;
 use step::step;
 
 pub mod answers;
-mod faults;
-mod moves;
 mod records;
-mod step;
 
 // How many commands a run may have.
 const BUDGET: usize = 65536;

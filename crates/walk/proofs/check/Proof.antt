@@ -4,7 +4,7 @@ use mathlib.Core.Path.{_∙_}
 use Rattle.rules.specs.Windows.{lengthsOf}
 use Rattle.rules.proofs.Places.{window-place}
 use Rattle.rules.proofs.Ranges.{counted}
-use Rattle.walk.specs.Parts.{captureOf}
+use Rattle.walk.specs.Lent.{captureOf}
 use Rattle.walk.proofs.Looping.{judged, unsound, sound, fitting, captured-is, no-base}
 use borrow.Author.Needs.{needs}
 use native.Mathlib.Omega.{arith}

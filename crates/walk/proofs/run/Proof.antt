@@ -10,7 +10,7 @@ use Rattle.rules.specs.Formats.{surfaceFormats}
 use Rattle.rules.specs.Commands.{rows, theRow, masksOf}
 use Rattle.commands.specs.Search.{maskRows, maskTable}
 use Rattle.rules.proofs.Recording.{fits-record}
-use Rattle.walk.specs.Parts.{captured}
+use Rattle.step.specs.Parts.{captured}
 use Rattle.walk.proofs.Looping.{Going, started, out-of-budget, refused, full, last, next, small-place, small-at, tail-written}
 use Rattle.walk.proofs.run.Statement.{statement}
 use Rattle.walk.proofs.run.Tie as tie

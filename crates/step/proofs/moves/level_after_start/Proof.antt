@@ -1,0 +1,14 @@
+-- `step::moves::level_after_start` meets its contract: the test is the bit.
+-- Assumes nothing.
+use borrow.Author.Tests.{eq-eqb, ne-eqb}
+use Rattle.step.proofs.moves.level_after_start.Statement.{statement}
+use Rattle.step.proofs.moves.level_after_start.Tie as tie
+
+returns : tie.Need-returns
+returns c = simp (eq-eqb _ _ (c .if1 .taken))
+
+returns-2 : tie.Need-returns-2
+returns-2 c = simp (ne-eqb _ _ (c .if1 .left))
+
+pub level-after-start-spec : {M : Type 1} → statement M
+level-after-start-spec = tie.close (tie.spec returns returns-2)

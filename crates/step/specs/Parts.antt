@@ -1,0 +1,72 @@
+-- One step in the parts that the code has: what the command's own dwords give (10 to 13), what its structure gives (14 to 17), and the move.
+use Prim.Native.Nat.{ℕ, _-_, _*_, _/_, _^_, _<_}
+use mathlib.Core.Path.{_≡_}
+use mathlib.Core.Bool.{cond}
+use mathlib.Core.List.{List}
+use lib.ListN.{length, getD}
+use lib.Dec.{eqb}
+use Rattle.rules.specs.declared.Windows.{Windows}
+use Rattle.rules.specs.declared.Level.{Level}
+use Rattle.rules.specs.declared.Base.{Base}
+use Rattle.rules.specs.declared.Base.the-variants.{Set}
+use Rattle.rules.specs.declared.Cursor.{Cursor}
+use Rattle.rules.specs.declared.After.{After}
+use Rattle.rules.specs.declared.After.the-variants.{To}
+use Rattle.rules.specs.declared.Pointer.{Pointer}
+use Rattle.rules.specs.declared.Verdict.{Verdict}
+use Rattle.rules.specs.declared.Verdict.the-variants.{Pass, Fails}
+use Rattle.rules.specs.declared.Reason.the-variants.{BitNotAllowed, NestedStart, ValueBroken, RangeOutside, BaseNeverSet}
+use Rattle.rules.specs.Words.{firstOf}
+use Rattle.rules.specs.Refusals.{inBatch, fault, refuseIf, refuseFound}
+use Rattle.rules.specs.Windows.{Capture}
+use Rattle.rules.specs.Commands.{bitWrong}
+use Rattle.rules.specs.Values.{valueWrong}
+use Rattle.rules.specs.Addresses.{addressAt, rangeWrong}
+use Rattle.rules.specs.Structures.{structureNowhere, structureBit, structureValue}
+use Rattle.rules.specs.Step.{endRow, startRow, nested, baseMissing, pointed, cursor, afterEnd, levelAfterStart, baseAfter}
+
+-- the capture that the windows' numbers and the two lent windows are
+abbrev pub captured : Windows → List ℕ → List ℕ → Capture
+captured w batch state = record {
+  batch = batch;
+  batchAt = w .batch .at;
+  state = state;
+  stateAt = w .state .at;
+  scratchAt = w .scratch .at;
+  scratchBytes = w .scratch .bytes;
+}
+
+-- the numbers are those of the lent windows
+pub record Fitted (w : Windows) (batch state : List ℕ) : Type 0 where
+  pub batchBytes : w .batch .bytes ≡ 4 * length batch
+  pub stateBytes : w .state .bytes ≡ 4 * length state
+
+-- one verdict, and the next only where it passes
+abbrev pub orElse : Verdict → Verdict → Verdict
+orElse Pass later = later
+orElse (Fails f) later = Fails f
+
+-- 10 to 13, of a command's dwords
+unfoldable pub contentOf : Windows → ℕ → List ℕ → ℕ → Level → Verdict
+contentOf w r d at level =
+    orElse (refuseFound BitNotAllowed inBatch at (firstOf (bitWrong r d) (length d)))
+    (orElse (refuseIf (nested r level) (fault NestedStart inBatch at))
+    (orElse (refuseFound ValueBroken inBatch at (firstOf (valueWrong r d) (length d)))
+    (refuseFound RangeOutside inBatch at (firstOf (rangeWrong w r d) (length d)))))
+
+-- 14 to 17, of the structure that a command points to
+unfoldable pub structuralOf : Capture → ℕ → Pointer → Base → Verdict
+structuralOf c pointer p base =
+    orElse (refuseIf (baseMissing p base) (fault BaseNeverSet inBatch pointer))
+    (orElse (pointed structureNowhere c pointer p base) (orElse (pointed structureBit c pointer p base) (pointed structureValue c pointer p base)))
+
+-- a base that row 9 can set, or none
+pub record SmallBase (base : Base) : Type 0 where
+  pub small : (b : ℕ) → base ≡ Set b → b < 2 ^ 48
+
+-- the move, of the batch window's address alone
+unfoldable pub moveFrom : ℕ → Cursor → ℕ → List ℕ → ℕ → After
+moveFrom at s r d next =
+    cond (eqb r endRow) (afterEnd (s .level) (s .base))
+    (cond (eqb r startRow) (To (cursor ((addressAt d 1 - at) / 4) (levelAfterStart (getD d 0 0) next (s .level)) (s .base)))
+    (To (cursor next (s .level) (baseAfter r d (s .base)))))

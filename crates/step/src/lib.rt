@@ -1,0 +1,89 @@
+// One step of the walk: the checks 6 to 17 of the command at the cursor, and where it leads.
+ghost use mathlib.Core.Path.{_≡_};
+ghost use Prim.Native.Nat.{_≤_};
+ghost use lib.ListN.{length};
+ghost use Rattle.rules.specs.declared.Outcome.the-variants.{Refused};
+ghost use Rattle.rules.specs.Refusals.{fault, inBatch};
+ghost use Rattle.rules.specs.Formats.{surfaceFormats};
+ghost use Rattle.rules.specs.Step.{stepOf};
+ghost use Rattle.commands.specs.Search.{maskTable};
+ghost use Rattle.step.specs.Parts.{captured, Fitted, SmallBase};
+use faults::content_fault;
+use faults::pointer_of;
+use faults::structure_fault;
+use moves::level_number;
+use moves::move_of;
+use commands::masks::ROWS;
+use commands::rows::length_of;
+use commands::rows::length_right;
+use commands::rows::row_of;
+use rules::Command;
+use rules::Cursor;
+use rules::Fault;
+use rules::Outcome;
+use rules::Reason;
+use rules::Verdict;
+use rules::Windows;
+
+mod faults;
+
+mod moves;
+
+// A refusal at the header.
+fn refused(reason: Reason, index: usize) -> Outcome
+    ensures { λ r. ⌜ r ≡ Refused (fault reason inBatch index) ⌝ }
+{
+    Outcome::Refused(Fault {
+        reason,
+        window: 0,
+        index,
+    })
+}
+
+pub fn step<'a>(
+    batch: &'a [u32],
+    state: &'a [u32],
+    w: Windows,
+    s: Cursor,
+    masks: &[[u32; 16]; 17],
+    formats: &[u16; 512],
+) -> Outcome
+    requires { ⌜ (Fitted w (now batch) (now state)) × (SmallBase (s .base)) × (now masks ≡ maskTable) × (now formats ≡ surfaceFormats) ⌝ }
+    ensures { λ r. ⌜ r ≡ stepOf (captured w (now (batch .entry)) (now (state .entry))) s ⌝ }
+{
+    let at = s.at;
+    let level = s.level;
+    let base = s.base;
+    if batch.len() <= at {
+        return refused(Reason::RanOff, at);
+    }
+    let header = batch[at];
+    let row = row_of(header);
+    if ROWS <= row {
+        return refused(Reason::UnknownHeader, at);
+    }
+    if !length_right(row, header) {
+        return refused(Reason::WrongLength, at);
+    }
+    let length = length_of(row, header);
+    if batch.len() - at < length {
+        return refused(Reason::PastTheWindow, at);
+    }
+    let next = at + length;
+    let command = &batch[at..next];
+    if let Verdict::Fails(f) = content_fault(w, row, command, at, level, masks, formats) {
+        return Outcome::Refused(f);
+    }
+    let pointer = pointer_of(row, command);
+    if let Verdict::Fails(f) = structure_fault(batch, state, w, pointer, base, at + 1) {
+        return Outcome::Refused(f);
+    }
+    let after = move_of(w.batch.at, s, row, command, next);
+    let taken = Command {
+        index: at,
+        level: level_number(level),
+        row,
+        length,
+    };
+    Outcome::Taken(taken, after)
+}

@@ -1,0 +1,21 @@
+-- What the public call is about: the capture that a caller lends, and the run behind the checks 1 to 4.
+use Prim.Native.Nat.{ℕ}
+use mathlib.Core.Path.{_≡_}
+use mathlib.Core.List.{List}
+use lib.ListN.{length}
+use Rattle.rules.specs.declared.Base.{Base}
+use Rattle.rules.specs.declared.Answer.{Answer}
+use Rattle.rules.specs.Windows.{Capture}
+use Rattle.rules.specs.Step.{budget}
+use Rattle.rules.specs.Walk.{traceFrom, cut, start, answerOf}
+use Rattle.rules.specs.Records.{roomOf, writtenOf}
+
+-- the capture that a caller lends: two windows with their addresses, and the third by its numbers
+abbrev pub captureOf : List ℕ → ℕ → List ℕ → ℕ → ℕ → ℕ → Capture
+captureOf batch batchAt state stateAt scratchAt scratchBytes =
+    record { batch = batch; batchAt = batchAt; state = state; stateAt = stateAt; scratchAt = scratchAt; scratchBytes = scratchBytes }
+
+-- what the loop promises: the walk behind the checks 1 to 4
+pub record Ran (base : Base) (c : Capture) (old : List ℕ) (answer : Answer) (new : List ℕ) : Type 0 where
+  pub answers : answer ≡ answerOf (cut (roomOf (length old)) (traceFrom budget c (start base)))
+  pub written : new ≡ writtenOf (cut (roomOf (length old)) (traceFrom budget c (start base))) old
