@@ -28,8 +28,8 @@ use Rattle.rules.specs.Structures.{Asked, structureNowhere, structureBit, struc
 use Rattle.rules.specs.Step.{nested}
 use Rattle.rules.proofs.Searching.{first-found}
 use Rattle.rules.proofs.Trying.{stays-failed}
-use Rattle.commands.specs.declared.Sought.the-variants.{Bits, Values, Ranges}
-use Rattle.commands.specs.Search.{wrongAt, wrong}
+use Rattle.search.specs.declared.Sought.the-variants.{Bits, Values, Ranges}
+use Rattle.search.specs.Search.{wrongAt, wrong}
 use Rattle.step.specs.Parts.{orElse, contentOf, structuralOf}
 
 -- a search that finds a dword finds one of the command's

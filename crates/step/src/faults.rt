@@ -8,11 +8,9 @@ ghost use Rattle.rules.specs.Formats.{surfaceFormats};
 ghost use Rattle.rules.specs.Commands.{groupSize};
 ghost use Rattle.rules.specs.Structures.{verdictOf};
 ghost use Rattle.rules.specs.Step.{nested, pointerOf};
-ghost use Rattle.commands.specs.Search.{maskTable};
+ghost use Rattle.search.specs.Search.{maskTable};
 ghost use Rattle.step.specs.Parts.{captured, Fitted, SmallBase, contentOf, structuralOf};
-use commands::Sought;
 use commands::dwords::dword;
-use commands::search::first_wrong;
 use rules::Base;
 use rules::Fault;
 use rules::Found;
@@ -23,6 +21,8 @@ use rules::Reading;
 use rules::Reason;
 use rules::Verdict;
 use rules::Windows;
+use search::Sought;
+use search::first_wrong;
 
 // A fault in the batch.
 pub fn fails(reason: Reason, index: usize) -> Verdict

@@ -6,17 +6,17 @@ ghost use Rattle.rules.specs.declared.Outcome.the-variants.{Refused};
 ghost use Rattle.rules.specs.Refusals.{fault, inBatch};
 ghost use Rattle.rules.specs.Formats.{surfaceFormats};
 ghost use Rattle.rules.specs.Step.{stepOf};
-ghost use Rattle.commands.specs.Search.{maskTable};
+ghost use Rattle.search.specs.Search.{maskTable};
 ghost use Rattle.step.specs.Parts.{captured, Fitted, SmallBase};
 use faults::content_fault;
 use faults::pointer_of;
 use faults::structure_fault;
 use moves::level_number;
 use moves::move_of;
-use commands::masks::ROWS;
-use commands::rows::length_of;
-use commands::rows::length_right;
-use commands::rows::row_of;
+use rows::ROWS;
+use rows::length_of;
+use rows::length_right;
+use rows::row_of;
 use rules::Command;
 use rules::Cursor;
 use rules::Fault;
@@ -26,7 +26,6 @@ use rules::Verdict;
 use rules::Windows;
 
 mod faults;
-
 mod moves;
 
 // A refusal at the header.

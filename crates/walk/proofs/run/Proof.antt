@@ -8,7 +8,7 @@ use borrow.Author.Needs.{needs}
 use Rattle.rules.specs.declared.Outcome.the-variants.{Taken}
 use Rattle.rules.specs.Formats.{surfaceFormats}
 use Rattle.rules.specs.Commands.{rows, theRow, masksOf}
-use Rattle.commands.specs.Search.{maskRows, maskTable}
+use Rattle.search.specs.Search.{maskRows, maskTable}
 use Rattle.rules.proofs.Recording.{fits-record}
 use Rattle.step.specs.Parts.{captured}
 use Rattle.walk.proofs.Looping.{Going, started, out-of-budget, refused, full, last, next, small-place, small-at, tail-written}

@@ -1,7 +1,7 @@
 -- `commands::addresses::access_of` meets its contract: an arm for each row of the table, and none past it.
 -- Assumes nothing.
 use Rattle.rules.specs.Addresses.{usesByRow, accessOf}
-use Rattle.commands.proofs.RowLaws.{past}
+use Rattle.rows.proofs.RowLaws.{past}
 use Rattle.commands.proofs.ValueLaws.{no-access}
 use borrow.Author.Needs.{needs}
 use Rattle.commands.proofs.addresses.access_of.Statement.{statement}

@@ -1,7 +1,7 @@
 -- `commands::values::value_wrong` meets its contract: an arm for each row of the table, and none past it.
 -- Assumes nothing.
 use Rattle.rules.specs.Values.{valueRules, ruleOf}
-use Rattle.commands.proofs.RowLaws.{past}
+use Rattle.rows.proofs.RowLaws.{past}
 use Rattle.commands.proofs.ValueLaws.{no-rule}
 use borrow.Author.Needs.{needs}
 use Rattle.commands.proofs.values.value_wrong.Statement.{statement}
