@@ -1,6 +1,6 @@
 -- Document 01, "Address rules (13)": the addresses that a command uses, in one definition.
 use Prim.Native.Nat.{ℕ, _+_, _-_, _*_, _^_}
-use mathlib.Core.Bool.{Bool, true, false, cond, not, _&&_}
+use mathlib.Core.Bool.{Bool, false, cond, not, _&&_}
 use mathlib.Core.List.{List, [], _∷_}
 use lib.ListN.{getD}
 use lib.Dec.{eqb}
@@ -45,7 +45,7 @@ loadRegisterUse d k j = lowAt 2 j (Reaches 4 AnyWindow)
 abbrev pub pipeUse : Uses
 pipeUse d k j = lowAt 2 j (cond (eqb (postSync d) 0) Unused (Reaches 8 ScratchOnly))
 
--- a range of the size that stands two dwords behind the low one, "with size not 0"
+-- a range of so many bytes, "with size not 0"; the size stands two dwords behind the low one
 abbrev pub sized : ℕ → Access
 sized size = cond (eqb size 0) Unused (Reaches size AnyWindow)
 

@@ -1,4 +1,4 @@
--- Every definition of the book that is shut, under one name: whoever says `unfolding book` can compute with all of it.
+-- Every shut definition that the walk is made of, under one name: whoever says `unfolding book` can compute a walk.
 use Prim.Native.Nat.{ℕ}
 use lib.Ieee.{ofBits, nanBits, le}
 use Rattle.rules.specs.Words.{allowed, some, someTwo, firstFrom, inGroup}

@@ -1,6 +1,6 @@
 -- Document 01, "Commands": the table of rows, as data, and what is read off it.
 use Prim.Native.Nat.{ℕ, suc, _+_, _-_, _*_, _/_, _%_, _^_}
-use mathlib.Core.Bool.{Bool, true, false, cond, not, _&&_}
+use mathlib.Core.Bool.{Bool, true, cond, not, _&&_}
 use mathlib.Core.List.{List, [], _∷_}
 use lib.ListN.{length, getD}
 use lib.Dec.{leb, eqb}
@@ -84,10 +84,11 @@ unfoldable pub rowCount : ℕ
 unfolding rows
 rowCount = length rows
 
--- what the table says of a row; a number that is no row has a row that allows nothing
+-- a number that is no row has a row that allows nothing
 abbrev noRow : Row
 noRow = row 0 0 one []
 
+-- what the table says of a row
 unfoldable pub theRow : ℕ → Row
 unfolding rows
 theRow r = getD rows r noRow
@@ -127,7 +128,7 @@ fieldRight (groups n) size header =
 unfoldable pub groupSize : ℕ → ℕ
 groupSize r = length (theRow r .masks)
 
--- 8: "length field wrong", not
+-- the length field is right; 8, "length field wrong", is its negation
 unfoldable pub lengthRight : ℕ → ℕ → Bool
 lengthRight r header = fieldRight (theRow r .total) (groupSize r) header
 
@@ -138,7 +139,8 @@ fieldBits (exactly f) = 0xFF
 fieldBits (byBit b f g) = 0xFF
 fieldBits (groups n) = 0xFF
 
--- the header's allowed bits: what it is known by, its free bits, its field
+-- the header's allowed bits: those that it is known by, its free bits and its field, three parts that share no bit. Of the first a header in this row
+-- can have no others set than the key's own.
 abbrev pub headerMask : Row → ℕ
 headerMask r = r .key + (r .free + fieldBits (r .total))
 
@@ -150,7 +152,7 @@ masksOf r = headerMask (theRow r) ∷ theRow r .masks
 abbrev pub spot : ℕ → ℕ → ℕ
 spot r k = inGroup (groupSize r) k
 
--- the bits allowed in the dword k of a command
+-- the bits allowed in the dword k of a command. They do not depend on its dwords today; a rule that looks at other dwords would stand here.
 unfoldable pub allowedAt : ℕ → List ℕ → ℕ → ℕ
 allowedAt r dwords k = getD (masksOf r) (spot r k) 0
 

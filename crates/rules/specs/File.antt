@@ -3,21 +3,18 @@ use Prim.Native.Nat.{ℕ, zero, suc, _+_, _-_, _*_, _^_}
 use mathlib.Core.Path.{_≡_}
 use mathlib.Core.Bool.{Bool, not, _&&_, _||_}
 use mathlib.Core.List.{List, [], _∷_, _++_}
-use lib.ListN.{length, getD, take, drop}
+use lib.ListN.{length, getD, drop}
 use lib.Dec.{ltb, eqb}
 use Rattle.rules.specs.declared.Contents.{Contents}
-use Rattle.rules.specs.declared.Filled.{Filled}
 use Rattle.rules.specs.declared.Opened.{Opened}
 use Rattle.rules.specs.declared.Opened.the-variants.{Holds, NotRead}
-use Rattle.rules.specs.declared.Fault.{Fault}
 use Rattle.rules.specs.declared.Verdict.{Verdict}
 use Rattle.rules.specs.declared.Verdict.the-variants.{Pass, Fails}
-use Rattle.rules.specs.declared.Reason.{Reason}
 use Rattle.rules.specs.declared.Reason.the-variants.{WrongCounts, FileSize, FileDistance, BufferShort}
 use Rattle.rules.specs.declared.Answer.{Answer}
 use Rattle.rules.specs.Refusals.{inBatch, fault, refuseIf, firstFault}
 use Rattle.rules.specs.Windows.{Capture, window, countsWrong}
-use Rattle.rules.specs.Walk.{Run, ended, walk, answerOf}
+use Rattle.rules.specs.Walk.{Run, unless, walk, answerWith, answerOf}
 use Rattle.rules.specs.Records.{roomOf, writtenOf, startingBase}
 
 -- "Little-endian"
@@ -83,7 +80,7 @@ fileCountsWrong o = countsWrong fileLimit (trailerOf (o .file) .batchCount) (tra
 abbrev pub bufferShort : Offer → Bool
 bufferShort o = ltb (o .batchRoom) (trailerOf (o .file) .batchCount) || ltb (o .stateRoom) (trailerOf (o .file) .stateCount)
 
--- "Refusals in order: 19, 20, 1, 21", all with "place 0,0"
+-- "Refusals in order: 19 ..; 20 ..; 1 ..; 21 ..", all with "place 0,0"
 unfoldable pub fileChecks : List (Offer → Verdict)
 fileChecks =
     (λ o. refuseIf (sizeWrong o) (fault FileSize inBatch 0))
@@ -107,6 +104,14 @@ openedBy (Fails f) t = NotRead (f .reason)
 unfoldable pub openedOf : List ℕ → ℕ → ℕ → Opened
 openedOf file batchRoom stateRoom =
     openedBy (firstFault fileChecks (record { file = file; batchRoom = batchRoom; stateRoom = stateRoom })) (trailerOf file)
+
+-- what each case of the reader's answer says: this paper's number, "place 0,0, count 0", for a refusal, and 0 for contents
+unfoldable pub openedVerdict : Opened → Verdict
+openedVerdict (Holds contents) = Pass
+openedVerdict (NotRead reason) = Fails (fault reason inBatch 0)
+
+abbrev pub openedAnswer : Opened → Answer
+openedAnswer opened = answerWith (openedVerdict opened) 0
 
 -- n dwords of the file, from a byte on
 unfoldable pub dwordsFrom : List ℕ → ℕ → ℕ → List ℕ
@@ -153,8 +158,7 @@ captureOf file =
 
 -- the run of a file: its refusal by the reader, or the walk of the capture that it holds
 abbrev pub runBy : Opened → List ℕ → ℕ → Run
-runBy (Holds contents) file room = walk startingBase (captureOf file) room
-runBy (NotRead reason) file room = ended (Fails (fault reason inBatch 0))
+runBy opened file room = unless (openedVerdict opened) (walk startingBase (captureOf file) room)
 
 unfoldable pub fileRun : List ℕ → ℕ → ℕ → ℕ → Run
 fileRun file batchRoom stateRoom room = runBy (openedOf file batchRoom stateRoom) file room

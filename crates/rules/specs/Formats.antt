@@ -1,6 +1,6 @@
 -- What is known of codes: document 01's lists of formats, topologies and registers.
 use Prim.Native.Nat.{ℕ, _%_}
-use mathlib.Core.Bool.{Bool, true, false, cond, _&&_, _||_}
+use mathlib.Core.Bool.{Bool, true, cond, _&&_, _||_}
 use mathlib.Core.List.{List, [], _∷_}
 use lib.ListN.{getD}
 use lib.Dec.{leb, ltb, eqb}
@@ -51,13 +51,14 @@ formatBits code = getD surfaceFormats code 0
 abbrev pub between : ℕ → ℕ → ℕ → Bool
 between low high n = leb low n && leb n high
 
--- "each entry is at most 256; below 0C0h it is 128 exactly at 000h..008h, 020h, 021h; 96 at 040h..046h, 050h; 64 at 080h..096h, 0A0h, 0A1h; else 0"
+-- "128 exactly at 000h..008h, 020h, 021h; 96 at 040h..046h, 050h; 64 at 080h..096h, 0A0h, 0A1h; else 0"
 abbrev pub blockBits : ℕ → ℕ
 blockBits code =
     cond (between 0x000 0x008 code || between 0x020 0x021 code) 128
     (cond (between 0x040 0x046 code || eqb code 0x050) 96
     (cond (between 0x080 0x096 code || between 0x0A0 0x0A1 code) 64 0))
 
+-- "Rule over the whole table: each entry is at most 256; below 0C0h it is" as above
 abbrev pub blockRule : ℕ → ℕ → Bool
 blockRule code entry = leb entry 256 && cond (ltb code 0x0C0) (eqb entry (blockBits code)) true
 

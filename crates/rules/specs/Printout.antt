@@ -6,7 +6,9 @@ use mathlib.Core.List.{List, [], _∷_, _++_}
 use lib.Dec.{ltb}
 use Rattle.rules.specs.declared.Command.{Command}
 use Rattle.rules.specs.declared.Answer.{Answer}
-use Rattle.rules.specs.Records.{commandOf}
+use Rattle.rules.specs.Walk.{Run, commandsOf, answerOf}
+use Rattle.rules.specs.Records.{roomOf, wordsOf, commandOf}
+use Rattle.rules.specs.File.{fileLimit, fileRun}
 
 -- the bytes of a number in decimal, with no leading zero; so many digits at most
 unfoldable pub digitsOf : ℕ → ℕ → List ℕ
@@ -60,6 +62,10 @@ recordLines (word ∷ words) = recordLine word ++ recordLines words
 -- the whole printout of an answer and its records
 unfoldable pub printout : Answer → List ℕ → List ℕ
 printout answer records = answerLine answer ++ recordLines records
+
+-- "The program lends 4,096 record words and prints": what it prints for a file; the two word buffers hold the largest windows
+unfoldable pub printed : List ℕ → List ℕ
+printed file = let run : Run = fileRun file fileLimit fileLimit (roomOf 4096) in printout (answerOf run) (wordsOf (commandsOf run))
 
 -- "For batch 00000000h, 05000000h": the document's own example, byte for byte
 pub the-example : printout (record { reason = 0; window = 0; index = 0; count = 2 }) (0x00010000 ∷ 0x01010001 ∷ []) ≡

@@ -31,11 +31,12 @@ unfoldable pub wordsOf : List Command → List ℕ
 wordsOf [] = []
 wordsOf (c ∷ cs) = recordOf c ∷ wordsOf cs
 
--- how many records so many words have room for
+-- how many records so many words have room for: a record is one word
 abbrev pub roomOf : ℕ → ℕ
 roomOf words = words
 
--- "that many records are written, each from the first free word of the lent record buffer onward, and the words after them stay"
+-- "that many records are written, each from the first free word of the lent record buffer onward (word 0 for the first), and the words after
+-- them stay"
 unfoldable pub writtenOf : Run → List ℕ → List ℕ
 writtenOf run old = wordsOf (commandsOf run) ++ drop (length (wordsOf (commandsOf run))) old
 

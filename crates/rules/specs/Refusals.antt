@@ -1,6 +1,6 @@
 -- Document 01, "Refusal numbers, in checking order".
 use Prim.Native.Nat.{ℕ, _+_}
-use mathlib.Core.Bool.{Bool, true, false, cond}
+use mathlib.Core.Bool.{Bool, cond}
 use mathlib.Core.List.{List, [], _∷_}
 use Rattle.rules.specs.declared.Reason.{Reason}
 use Rattle.rules.specs.declared.Reason.the-variants.{WrongCounts, AddressUnaligned, EndsTooHigh, WindowsShare, BudgetSpent, RanOff, UnknownHeader, WrongLength, PastTheWindow, BitNotAllowed, NestedStart, ValueBroken, RangeOutside, BaseNeverSet, StructureNowhere, StructureBit, StructureValue, RecordsFull, FileSize, FileDistance, BufferShort}
@@ -53,7 +53,7 @@ abbrev pub refuseFound : Reason → ℕ → ℕ → Found → Verdict
 refuseFound reason window from Nothing = Pass
 refuseFound reason window from (At k) = Fails (fault reason window (from + k))
 
--- "tried in this order": what the first check that fails says; `said` is what the check before the list said
+-- "tried .. in this order": what the first check that fails says; `said` is what the check before the list said
 unfoldable pub tried : {A : Type 0} → List (A → Verdict) → Verdict → A → Verdict
 tried [] said a = said
 tried (check ∷ checks) (Fails f) a = Fails f

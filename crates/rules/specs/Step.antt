@@ -66,7 +66,7 @@ lengthAt batch at = lengthOf (rowAt batch at) (headerAt batch at)
 unfoldable pub dwordsAt : List ℕ → ℕ → List ℕ
 dwordsAt batch at = take (lengthAt batch at) (drop at batch)
 
--- "Rows 14, and 15 with bit 0 set, read a structure"; "pointer (low bits masked off)"
+-- "Rows 14, and 15 with bit 0 set, read a structure"; "Address is dynamic base plus pointer (low bits masked off)"
 unfoldable pub pointerOf : ℕ → List ℕ → Pointer
 pointerOf r d =
     cond (eqb r viewportRow) (PointsTo Viewport (cleared (getD d 1 0) 5))
@@ -78,7 +78,7 @@ baseMissing NoPointer base = false
 baseMissing (PointsTo kind offset) Unset = true
 baseMissing (PointsTo kind offset) (Set b) = false
 
--- a check of the structure that a command reads; "Address is dynamic base plus pointer, by the exact sum"
+-- a check of the structure that a command reads; "Address is dynamic base plus pointer .., by the exact sum"
 abbrev pub pointed : (Asked → Verdict) → Capture → ℕ → Pointer → Base → Verdict
 pointed check c pointer NoPointer base = Pass
 pointed check c pointer (PointsTo kind offset) Unset = Pass
@@ -124,7 +124,7 @@ budget = 65536
 unfoldable pub budgetSpent : ℕ → Here → Verdict
 budgetSpent done h = atHeader BudgetSpent h (leb budget done)
 
--- 6: "position equals the batch count", at "that index". The position is never above the count (Laws), so "equals" is "is not below".
+-- 6: "position equals the batch count", at "that index". The position is never above the count (proofs/Moving), so "equals" is "is not below".
 unfoldable pub ranOff : Here → Verdict
 ranOff h = atHeader RanOff h (leb (length (h .capture .batch)) (at h))
 
@@ -165,7 +165,7 @@ baseNeverSet h =
 unfoldable pub recordsFull : ℕ → ℕ → Here → Verdict
 recordsFull done room h = atHeader RecordsFull h (leb room done)
 
--- the checks that ask about the command's dwords: 6 to 17
+-- the checks that need neither the budget nor the room: 6 to 17
 unfoldable pub stepChecks : List (Here → Verdict)
 stepChecks =
     ranOff
@@ -186,7 +186,7 @@ stepChecks =
 unfoldable pub checks : ℕ → ℕ → List (Here → Verdict)
 checks done room = budgetSpent done ∷ (stepChecks ++ (recordsFull done room ∷ []))
 
--- "at the kept position, level 0", "at its target": where the walk stands next
+-- where the walk stands next
 abbrev pub cursor : ℕ → Level → Base → Cursor
 cursor at level base = record { at = at; level = level; base = base }
 

@@ -1,23 +1,20 @@
 -- Document 01, "State structures".
-use Prim.Native.Nat.{ℕ, _+_, _*_}
-use mathlib.Core.Bool.{Bool, true, false, cond, not, _&&_, _||_}
+use Prim.Native.Nat.{ℕ}
+use mathlib.Core.Bool.{Bool, true, false, not, _&&_, _||_}
 use mathlib.Core.List.{List, [], _∷_}
 use lib.ListN.{length, getD}
 use lib.Dec.{leb, eqb}
 use lib.Ieee.{Float, ofBits, nanBits, binary32, le}
-use Rattle.rules.specs.declared.Window.{Window}
 use Rattle.rules.specs.declared.Held.{Held}
 use Rattle.rules.specs.declared.Held.the-variants.{InBatch, InState, Nowhere}
 use Rattle.rules.specs.declared.Kind.{Kind}
 use Rattle.rules.specs.declared.Kind.the-variants.{Viewport, ColourCalc}
-use Rattle.rules.specs.declared.Pointer.{Pointer}
-use Rattle.rules.specs.declared.Pointer.the-variants.{NoPointer, PointsTo}
 use Rattle.rules.specs.declared.Reading.{Reading}
 use Rattle.rules.specs.declared.Reading.the-variants.{Depths, Colour, Unreadable}
 use Rattle.rules.specs.declared.Verdict.{Verdict}
 use Rattle.rules.specs.declared.Verdict.the-variants.{Pass, Fails}
 use Rattle.rules.specs.declared.Reason.the-variants.{StructureNowhere, StructureBit, StructureValue}
-use Rattle.rules.specs.Words.{bit, cleared, allowed, firstOf, inGroup}
+use Rattle.rules.specs.Words.{allowed, firstOf, inGroup}
 use Rattle.rules.specs.Refusals.{inBatch, inState, fault, refuseIf, refuseFound, firstFault}
 use Rattle.rules.specs.Windows.{lent, heldAt, partOf}
 use Rattle.rules.specs.Commands.{anyDword}
@@ -127,8 +124,14 @@ readAt batch batchAt state stateAt kind address pointer =
     let a : Asked = askedAt batch batchAt state stateAt kind address pointer in
     readingOf (firstFault structureChecks a) kind (a .dwords)
 
--- what a read says of the capture: this paper's number and place for its refusal, and nothing for its values
+-- what each case of a read says of the capture, the refusal with its reason and place
 unfoldable pub verdictOf : Reading → Verdict
 verdictOf (Depths a b) = Pass
 verdictOf (Colour r g b a) = Pass
 verdictOf (Unreadable f) = Fails f
+
+-- and the values that it gives back: two floats, four, or none
+unfoldable pub floatsOf : Reading → List Float
+floatsOf (Depths least greatest) = least ∷ greatest ∷ []
+floatsOf (Colour red green blue alpha) = red ∷ green ∷ blue ∷ alpha ∷ []
+floatsOf (Unreadable f) = []

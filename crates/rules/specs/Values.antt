@@ -1,6 +1,6 @@
 -- Document 01, "Value rules (12)".
 use Prim.Native.Nat.{ℕ, _%_}
-use mathlib.Core.Bool.{Bool, true, false, cond, not, _&&_, _||_}
+use mathlib.Core.Bool.{Bool, false, cond, not, _&&_, _||_}
 use mathlib.Core.List.{List, [], _∷_}
 use lib.ListN.{getD}
 use lib.Dec.{leb, ltb, eqb}
@@ -29,7 +29,7 @@ registerRule d j w = eqb j 1 && not (knownRegister w)
 abbrev pub eightBytes : List ℕ → Bool
 eightBytes d = bit (getD d 0 0) 21
 
--- "Row 4: an eight-byte store address is a multiple of 8."
+-- "Row 4: ..; an eight-byte store address is a multiple of 8."
 abbrev pub storeRule : Rule
 storeRule d j w = eqb j 1 && (eightBytes d && not (eqb (w % 8) 0))
 
@@ -37,7 +37,7 @@ storeRule d j w = eqb j 1 && (eightBytes d && not (eqb (w % 8) 0))
 abbrev pub postSync : List ℕ → ℕ
 postSync d = field (getD d 1 0) 15 14
 
--- "Row 7: If 0, dwords 2 to 5 are zero; else the address is a multiple of 8."
+-- "Row 7: .. If 0, dwords 2 to 5 are zero; else the address is a multiple of 8."
 abbrev pub pipeRule : Rule
 pipeRule d j w = cond (eqb (postSync d) 0) (leb 2 j && not (eqb w 0)) (eqb j 2 && not (eqb (w % 8) 0))
 
@@ -71,7 +71,8 @@ indexBufferRule d j w = eqb j 1 && eqb (field w 9 8) 3
 abbrev pub topologyRule : Rule
 topologyRule d j w = eqb j 1 && not (knownTopology w)
 
--- "Row 16: dword 1 bit 9 not with header bit 10 (place dword 1); with bit 9, dword 1 bit 8 is 0 and dwords 3, 5, 6 are 0."
+-- "Row 16: dword 1 bit 9 not with header bit 10 (place dword 1); with bit 9, dword 1 bit 8 is 0 and dwords 3, 5, 6 are 0.
+-- Its topology field is ignored": no rule looks at it.
 abbrev pub primitiveRule : Rule
 primitiveRule d j w =
     bit (getD d 1 0) 9

@@ -1,8 +1,8 @@
 -- Document 01, "The walk": the trace of a run with its budget, its cut by the room for records, and the answer.
-use Prim.Native.Nat.{ℕ, zero, suc, _+_, _*_, _^_}
+use Prim.Native.Nat.{ℕ, zero, suc}
 use mathlib.Core.Path.{_≡_}
-use mathlib.Core.List.{List, [], _∷_, _++_}
-use lib.ListN.{length, drop}
+use mathlib.Core.List.{List, [], _∷_}
+use lib.ListN.{length}
 use Rattle.rules.specs.declared.Level.the-variants.{First}
 use Rattle.rules.specs.declared.Base.{Base}
 use Rattle.rules.specs.declared.Cursor.{Cursor}
@@ -10,7 +10,6 @@ use Rattle.rules.specs.declared.Command.{Command}
 use Rattle.rules.specs.declared.After.the-variants.{Ends, To}
 use Rattle.rules.specs.declared.Outcome.{Outcome}
 use Rattle.rules.specs.declared.Outcome.the-variants.{Taken, Refused}
-use Rattle.rules.specs.declared.Fault.{Fault}
 use Rattle.rules.specs.declared.Verdict.{Verdict}
 use Rattle.rules.specs.declared.Verdict.the-variants.{Pass, Fails}
 use Rattle.rules.specs.declared.Reason.the-variants.{BudgetSpent, RecordsFull}

@@ -15,7 +15,8 @@ use Rattle.rules.specs.declared.Reason.the-variants.{WrongCounts, Addres
 use Rattle.rules.specs.Words.{some, someTwo}
 use Rattle.rules.specs.Refusals.{inBatch, fault, refuseIf, firstFault}
 
--- "a batch window and a state window, both lent as 32-bit words and never written, and a scratch window known only by address and byte length"
+-- "A capture has a batch window .. and a state window .., both lent as 32-bit words and never written, and a scratch window known only by address
+-- and byte length"
 pub record Capture : Type 0 where
   pub batch : List ℕ
   pub batchAt : ℕ
@@ -65,12 +66,13 @@ endsTooHigh w = ltb (2 ^ 48) (end w)
 abbrev pub shareByte : Window → Window → Bool
 shareByte v w = (ltb 0 (v .bytes) && ltb 0 (w .bytes)) && (ltb (v .at) (end w) && ltb (w .at) (end v))
 
--- "1 to 4 precede the walk, have count 0", and place 0,0
+-- what the checks 1 to 4 look at: the counts of the two lent windows, and where all three lie
 pub record Lengths : Type 0 where
   pub batch : ℕ
   pub state : ℕ
   pub windows : Windows
 
+-- "1 to 4 precede the walk", in this order, with place 0,0
 unfoldable pub windowChecks : List (Lengths → Verdict)
 windowChecks =
     (λ l. refuseIf (countsWrong windowLimit (l .batch) (l .state)) (fault WrongCounts inBatch 0))
@@ -85,7 +87,7 @@ lengthsOf c = record { batch = length (c .batch); state = length (c .state); win
 unfoldable pub windowFault : Lengths → Verdict
 windowFault l = firstFault windowChecks l
 
--- "A range fits if all its bytes lie in one window."
+-- all the bytes of a range lie in the window
 unfoldable pub holds : Window → ℕ → ℕ → Bool
 holds w address bytes = leb (w .at) address && leb (address + bytes) (end w)
 
@@ -95,6 +97,7 @@ windowsAllowed BatchOnly w = w .batch ∷ []
 windowsAllowed ScratchOnly w = w .scratch ∷ []
 windowsAllowed AnyWindow w = listed w
 
+-- "A range fits if all its bytes lie in one window", of those that its rule names
 unfoldable pub fits : Windows → Allowed → ℕ → ℕ → Bool
 fits w allowed address bytes = some (λ v. holds v address bytes) (windowsAllowed allowed w)
 

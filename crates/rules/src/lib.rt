@@ -99,7 +99,7 @@ pub enum Reading {
     Unreadable(Fault),
 }
 
-// The first place that a search looks for, if there is one.
+// The first place that a search finds, if there is one.
 pub enum Found {
     At(usize),
     Nothing,
