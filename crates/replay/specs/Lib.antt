@@ -1,0 +1,2 @@
+pub mod Streamer
+pub mod Runs
