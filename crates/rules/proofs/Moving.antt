@@ -33,10 +33,10 @@ same-cursor q = cc
 pub ends-nowhere : {t : Cursor} → Ends ≡ To t → ⊥
 ends-nowhere q = let z : _≡_ {A = ℕ} 0 1 = cc in omega arith
 
-first-keeps-none : {back : ℕ} → First ≡ Second back → ⊥
+pub first-keeps-none : {back : ℕ} → First ≡ Second back → ⊥
 first-keeps-none q = let z : _≡_ {A = ℕ} 0 1 = cc in omega arith
 
-same-kept : {a b : ℕ} → Second a ≡ Second b → a ≡ b
+pub same-kept : {a b : ℕ} → Second a ≡ Second b → a ≡ b
 same-kept q = cc
 
 -- the position after a command, and a start's target

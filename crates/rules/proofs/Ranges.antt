@@ -9,13 +9,13 @@ use mathlib.Core.List.{List, [], _∷_}
 use mathlib.Core.Logic.{_⊎_, inl, inr, ⊎-elim}
 use lib.ListN.{length, getD}
 use lib.Dec.{leb, ltb, eqb}
-use borrow.Author.Tests.{leb-true, ltb-true, lt-ltb, le-ltb, ltb-false, eqb-true}
+use borrow.Author.Tests.{leb-true, ltb-true, lt-ltb, ltb-false, eqb-true, not-false}
 use Rattle.rules.specs.declared.Window.{Window}
 use Rattle.rules.specs.declared.Windows.{Windows}
 use Rattle.rules.specs.declared.Allowed.the-variants.{BatchOnly, ScratchOnly, AnyWindow}
 use Rattle.rules.specs.declared.Verdict.the-variants.{Pass}
 use Rattle.rules.specs.Words.{some, someTwo}
-use Rattle.rules.specs.Windows.{Capture, windowLimit, countsWrong, window, listed, end, windowsOf, endsTooHigh, shareByte, windowChecks, lengthsOf, Lengths, windowFault, holds, windowsAllowed, fits}
+use Rattle.rules.specs.Windows.{Capture, windowLimit, countsWrong, unaligned, window, listed, end, windowsOf, endsTooHigh, shareByte, windowChecks, lengthsOf, Lengths, windowFault, holds, windowsAllowed, fits}
 use Rattle.rules.proofs.Searching.{either, never-both, some-left, some-right, or-cases, and-left, and-right}
 use Rattle.rules.proofs.Trying.{all-pass, refuse-passes}
 
@@ -58,7 +58,7 @@ abbrev pub noWindow : Window
 noWindow = window 0 0
 
 -- two windows that hold the same range of at least one byte share its first
-both-share : (v w : Window) (a n : ℕ) → 0 < n → Inside v a n → Inside w a n → shareByte v w ≡ true
+pub both-share : (v w : Window) (a n : ℕ) → 0 < n → Inside v a n → Inside w a n → shareByte v w ≡ true
 both-share v w a n h p q =
     let l = p .low in
     let m = p .high in
@@ -88,8 +88,9 @@ one-holds ws a n h apart e =
         ⊎-elim (λ u. absurd (apart-at k i (ltb-true k i u) li p q)) (λ u. omega (arith, ltb-false i k t, ltb-false k i u)) (either (ltb k i)))
         (either (ltb i k))
 
--- the windows of a capture that passed 1 to 4: none ends above 2^48, and no two share a byte
+-- the windows of a capture that passed 1 to 4: each is aligned, none ends above 2^48, and no two share a byte
 pub record Sound (w : Windows) : Type 0 where
+  pub aligned : (i : ℕ) → i < 3 → getD (listed w) i noWindow .at % 4096 ≡ 0
   pub ends : (i : ℕ) → i < 3 → end (getD (listed w) i noWindow) ≤ 2 ^ 48
   pub apart : someTwo shareByte (listed w) ≡ false
 
@@ -98,6 +99,7 @@ unfolding windowFault windowChecks
 sound l e =
     let p = all-pass l windowChecks e in
     record {
+      aligned = λ i h. eqb-true _ 0 (not-false _ (none-at unaligned noWindow (listed (l .windows)) (refuse-passes _ _ (p .1 .0)) i h));
       ends = λ i h. ltb-false _ _ (none-at endsTooHigh noWindow (listed (l .windows)) (refuse-passes _ _ (p .1 .1 .0)) i h);
       apart = refuse-passes _ _ (p .1 .1 .1 .0);
     }

@@ -1,0 +1,104 @@
+-- The streamer beside the walk: a machine that agrees with a cursor fetches the dwords of the command that stands there, and no others.
+-- Assumes nothing.
+use Prim.Native.Nat.{ℕ, zero, suc, _+_, _-_, _*_, _/_, _%_, _^_, _≤_, _<_}
+use native.Mathlib.Nat.{add-zero}
+use native.Mathlib.Numerals.{add-one}
+use native.Mathlib.Omega.{arith}
+use mathlib.Core.Path.{_≡_, refl, sym, ap, _∙_}
+use mathlib.Core.Bool.{Bool, true, false, not}
+use mathlib.Core.List.{List, [], _∷_}
+use mathlib.Core.Option.{Option, some, none}
+use lib.ListN.{length, getD, getElem?, take, drop, length-drop}
+use lib.Seq.{getD-take, getD-drop, drop-cons, length-take-le}
+use lib.Bits.{bitAnd, and-mod, and-zero-r}
+use lib.Dec.{eqb}
+use borrow.Author.Tests.{eqb-true, not-false}
+use Rattle.rules.specs.declared.Level.{Level}
+use Rattle.rules.specs.declared.Level.the-variants.{First, Second}
+use Rattle.rules.specs.declared.Cursor.{Cursor}
+use Rattle.rules.specs.Words.{allowed}
+use Rattle.rules.specs.Windows.{Capture}
+use Rattle.rules.specs.Commands.{Length, one, exactly, byBit, groups, theRow, dwordCount, lengthOf, allowedAt, bitWrong}
+use Rattle.rules.specs.Addresses.{addressAt}
+use Rattle.rules.specs.Step.{headerAt, rowAt, lengthAt, dwordsAt}
+use Rattle.rules.proofs.Stepping.{Passed}
+use Rattle.replay.specs.Streamer.{Machine, Step, withWord, fetched, fetchedWords, fetchedAddress}
+use Rattle.replay.proofs.Stores.{Windowed, some-word}
+
+abbrev pub isSecond : Level → Bool
+isSecond First = false
+isSecond (Second back) = true
+
+-- the machine stands where the walk stands: its position and level, at level 1 the kept position, and the windows
+pub record Agrees (c : Capture) (s : Cursor) (m : Machine) : Type 0 where
+  pub at : m .at ≡ s .at
+  pub level : m .second ≡ isSecond (s .level)
+  pub kept : (back : ℕ) → s .level ≡ Second back → m .kept ≡ some back
+  pub windowed : Windowed c m
+
+-- a word whose allowed bits leave out the lowest two is a multiple of 4
+pub multiple-of-4 : (w mask : ℕ) → allowed w mask ≡ true → mask % 4 ≡ 0 → w % 4 ≡ 0
+unfolding allowed
+multiple-of-4 w mask e h =
+    let a = eqb-true (bitAnd w mask) w e in
+    ap (λ (x : ℕ). x % 4) (sym a) ∙ and-mod w mask 2 ∙ ap (bitAnd (w % 4)) h ∙ and-zero-r (w % 4)
+
+-- every command has its header
+pub some-long : (r header : ℕ) → 0 < lengthOf r header
+unfolding lengthOf
+some-long r header = by (theRow r .total)
+  where
+    by : (t : Length) → 0 < dwordCount t header
+    by one = omega arith
+    by (exactly f) = omega arith
+    by (byBit b f g) = omega arith
+    by (groups n) = omega arith
+
+module _ (c : Capture) (s : Cursor) (m : Machine) (p : Passed c s) (g : Agrees c s m) where
+  abbrev dwords : List ℕ
+  dwords = dwordsAt (c .batch) (s .at)
+
+  abbrev long : ℕ
+  long = lengthAt (c .batch) (s .at)
+
+  -- a dword of the command, in the batch and among its own
+  pub own-dword : (k : ℕ) → k < lengthAt (c .batch) (s .at) → getD (dwordsAt (c .batch) (s .at)) k 0 ≡ getD (c .batch) (s .at + k) 0
+  unfolding dwordsAt
+  own-dword k h = getD-take long (drop (s .at) (c .batch)) k 0 h ∙ getD-drop (s .at) (c .batch) k 0
+
+  -- they are as many as its length
+  pub counted : length (dwordsAt (c .batch) (s .at)) ≡ lengthAt (c .batch) (s .at)
+  unfolding dwordsAt
+  counted = let w = p .whole in length-take-le long (drop (s .at) (c .batch)) (omega (arith, length-drop (s .at) (c .batch)))
+
+  at-dword : (k : ℕ) → k < long → getElem? (m .batch) (m .at + k) ≡ some (getD dwords k 0)
+  at-dword k h =
+      let w = p .whole in
+      rw (g .windowed .batch, g .at, own-dword k h) (some-word (c .batch) (s .at + k) (omega arith))
+
+  pub fetches : (k : ℕ) → k < lengthAt (c .batch) (s .at) → (on : ℕ → Step) → fetched m k on ≡ on (getD (dwordsAt (c .batch) (s .at)) k 0)
+  unfolding fetched
+  fetches k h on = rw (at-dword k h)
+
+  pub fetches-address : (k : ℕ) → k + 1 < lengthAt (c .batch) (s .at) → (on : ℕ → Step) → fetchedAddress m k on ≡ on (addressAt (dwordsAt (c .batch) (s .at)) k)
+  unfolding fetchedAddress addressAt
+  fetches-address k h on = fetches k (omega arith) _ ∙ fetches (k + 1) h _
+
+  pub fetches-words : (n k : ℕ) → k + n ≤ lengthAt (c .batch) (s .at) → (on : List ℕ → Step) → fetchedWords m k n on ≡ on (take n (drop k (dwordsAt (c .batch) (s .at))))
+  unfolding fetchedWords
+  fetches-words zero k h on = refl
+  fetches-words (suc n) k h on =
+      let l : k < length dwords = omega (arith, counted) in
+      fetches k (omega arith) _ ∙ fetches-words n (k + 1) (omega arith) (λ ws. on (getD dwords k 0 ∷ ws))
+      ∙ ap on (sym (rw (drop-cons dwords k 0 l, ← add-one k)))
+
+  -- the header, as the table is asked
+  pub header-is : getD (dwordsAt (c .batch) (s .at)) 0 0 ≡ headerAt (c .batch) (s .at)
+  header-is = own-dword 0 (some-long (rowAt (c .batch) (s .at)) (headerAt (c .batch) (s .at))) ∙ ap (λ (i : ℕ). getD (c .batch) i 0) (add-zero (s .at))
+
+  -- an address whose low dword allows no lowest bits
+  pub aligned : (k : ℕ) → k < lengthAt (c .batch) (s .at) → allowedAt (rowAt (c .batch) (s .at)) (dwordsAt (c .batch) (s .at)) k % 4 ≡ 0 → addressAt (dwordsAt (c .batch) (s .at)) k % 4 ≡ 0
+  unfolding addressAt bitWrong
+  aligned k h e =
+      let d = multiple-of-4 (getD dwords k 0) _ (not-false _ (p .bits k h)) e in
+      omega arith

@@ -1,0 +1,4 @@
+pub mod Stores
+pub mod Fetching
+pub mod Simulating
+pub mod Streaming
