@@ -44,7 +44,7 @@ told-short base c room = by (windowFault (lengthsOf c)) refl
     by (Fails f) e = rw (walk-unsound base c room e) (omega arith)
 
 module _ {c : Capture} {old new : List ℕ} {r : Answer} (p : Checked c old r new) where
-  count-told : r .count ≡ length (commandsOf (walk Unset c (length old)))
+  pub count-told : r .count ≡ length (commandsOf (walk Unset c (length old)))
   count-told = ap (λ (a : Answer). a .count) (p .answers) ∙ count-is (walk Unset c (length old)) ∙ words-counted _
 
   words-told : length (wordsOf (commandsOf (walk Unset c (length old)))) ≡ r .count

@@ -112,7 +112,8 @@ module _ {c : Capture} {old new : List ℕ} {r : Answer} (p : Checked c old r ne
   unfolding theWalk told answerOf
   answer-is = p .answers
 
-  passes : r .reason ≡ 0 → theWalk ≡ Pass
+  pub passes : r .reason ≡ 0 → endOf (walk Unset c (length old)) ≡ Pass
+  unfolding theWalk told
   passes e = zero-is-pass theWalk (length told) (ap (λ (a : Answer). a .reason) (sym answer-is) ∙ e)
 
   completes : r .reason ≡ 0 → (r ≡ record { reason = 0; window = 0; index = 0; count = length told }) × Complete c told

@@ -138,14 +138,17 @@ module _ (c : Capture) (sound : Sound (windowsOf c)) (hardware : Hardware) (done
   Went b = (x : Effect) × (run ≡ goes x) × Agrees c (cursor (s .at + n) (s .level) b) (x .machine) × AllInScratch c (x .stored)
 
   went : {e : Effect} (b : Base) → Stored c m e → run ≡ goes (record { machine = onward n (e .machine); stored = e .stored }) → Went b
-  went {e} b t q =
-      (record { machine = onward n (e .machine); stored = e .stored }, q,
-      record {
-        at = ap (λ (i : ℕ). i + n) (t .at ∙ g .at);
-        level = t .second ∙ g .level;
-        kept = λ back l. t .kept ∙ g .kept back l;
-        windowed = record { batch = t .windowed .batch; state = t .windowed .state; scratch = t .windowed .scratch };
-      }, t .inside)
+  went {e} b t q = (
+    record { machine = onward n (e .machine); stored = e .stored },
+    q,
+    record {
+      at = ap (λ (i : ℕ). i + n) (t .at ∙ g .at);
+      level = t .second ∙ g .level;
+      kept = λ back l. t .kept ∙ g .kept back l;
+      windowed = record { batch = t .windowed .batch; state = t .windowed .state; scratch = t .windowed .scratch };
+    },
+    t .inside,
+  )
 
   -- with other registers, and nothing stored
   idle : (registers : ℕ → ℕ) → Stored c m (record { machine = withRegisters m registers; stored = [] })
@@ -220,20 +223,27 @@ module _ (c : Capture) (sound : Sound (windowsOf c)) (hardware : Hardware) (done
     where
       post : ℕ
       post = postSync d
+
       l : n ≡ 6
       l = ap (λ (r : ℕ). lengthOf r header) e ∙ exact-length 7 header refl (ap (λ (i : ℕ). lengthRight i header) (sym e) ∙ p .right)
+
       begins : run ≡ pipe (mapOf c) hardware done m n (getD d 1 0)
       begins = exec-pipe (mapOf c) hardware done m header row n e ∙ fetches c s m p g 1 (omega (arith, l)) _
+
       inside : eqb post 0 ≡ false → Inside (windowsOf c .scratch) (addressAt d 2) 8
       inside q = in-scratch 7 e (row-seven (eqb-false post 0 q)) (omega (arith, l))
+
       multiple : addressAt d 2 % 4 ≡ 0
       multiple = aligned c s m p g 2 (omega (arith, l)) (low-2 row (inr (inr e)))
+
       none : eqb post 0 ≡ true → Went b
       none q = went b (idle (m .registers)) (begins ∙ rw q)
+
       own : eqb post 0 ≡ false → eqb post 1 ≡ true → Went b
       own q r =
           storing b (take 2 (drop 4 d)) (addressAt d 2) multiple (rw (counted-words 4 2 (omega (arith, l))) (inside q))
           (begins ∙ rw (q, r) (fetches-address c s m p g 2 (omega (arith, l)) _ ∙ fetches-words c s m p g 2 4 (omega (arith, l)) _))
+
       given : eqb post 0 ≡ false → eqb post 1 ≡ false → Went b
       given q r = storing b (hardware done .low ∷ hardware done .high ∷ []) (addressAt d 2) multiple (inside q) (begins ∙ rw (q, r) (fetches-address c s m p g 2 (omega (arith, l)) _))
 
@@ -265,21 +275,29 @@ module _ (c : Capture) (sound : Sound (windowsOf c)) (hardware : Hardware) (done
   unfolding endBatch
   moved (ends r l) =
       (record { machine = m; stored = [] }, exec-end (mapOf c) hardware done m header row n r ∙ rw (g .level, l), g .windowed, tt)
-  moved (returns {back = back} r l) =
-      (record { machine = machine back false (m .kept) (m .registers) (m .batch) (m .state) (m .scratch); stored = [] },
-      exec-end (mapOf c) hardware done m header row n r ∙ rw (g .level, l, g .kept back l),
-      record { at = refl; level = refl; kept = λ b q. absurd (first-keeps-none q); windowed = record { batch = g .windowed .batch; state = g .windowed .state; scratch = g .windowed .scratch } }, tt)
-  moved (jumps r b) =
-      (record { machine = goingTo m false (m .at + n) (targetAt c s); stored = [] }, starting r ∙ rw b,
-      record { at = refl; level = g .level; kept = g .kept; windowed = record { batch = g .windowed .batch; state = g .windowed .state; scratch = g .windowed .scratch } }, tt)
-  moved (calls r b) =
-      (record { machine = goingTo m true (m .at + n) (targetAt c s); stored = [] }, starting r ∙ rw b,
-      record {
-        at = refl;
-        level = refl;
-        kept = λ back q. ap some (ap (λ (i : ℕ). i + n) (g .at) ∙ same-kept q);
-        windowed = record { batch = g .windowed .batch; state = g .windowed .state; scratch = g .windowed .scratch };
-      }, tt)
+  moved (returns {back = back} r l) = (
+    record { machine = machine back false (m .kept) (m .registers) (m .batch) (m .state) (m .scratch); stored = [] },
+    exec-end (mapOf c) hardware done m header row n r ∙ rw (g .level, l, g .kept back l),
+    record { at = refl; level = refl; kept = λ b q. absurd (first-keeps-none q); windowed = record { batch = g .windowed .batch; state = g .windowed .state; scratch = g .windowed .scratch } },
+    tt,
+  )
+  moved (jumps r b) = (
+    record { machine = goingTo m false (m .at + n) (targetAt c s); stored = [] },
+    starting r ∙ rw b,
+    record { at = refl; level = g .level; kept = g .kept; windowed = record { batch = g .windowed .batch; state = g .windowed .state; scratch = g .windowed .scratch } },
+    tt,
+  )
+  moved (calls r b) = (
+    record { machine = goingTo m true (m .at + n) (targetAt c s); stored = [] },
+    starting r ∙ rw b,
+    record {
+      at = refl;
+      level = refl;
+      kept = λ back q. ap some (ap (λ (i : ℕ). i + n) (g .at) ∙ same-kept q);
+      windowed = record { batch = g .windowed .batch; state = g .windowed .state; scratch = g .windowed .scratch };
+    },
+    tt,
+  )
   moved (goes-on r q) = others _ r q
 
 -- THE STEP

@@ -78,8 +78,13 @@ module _ (c : Capture) (s : Sound (windowsOf c)) where
       let l = i .low in
       let h = i .high in
       let g : c .scratchAt % 4096 ≡ 0 = s .aligned 2 (lit< tt) in
-      rw (w .batch, w .state, unfound (c .batchAt) a (c .batch) (λ q. apart _ s 0 2 (lit< tt) (lit< tt) a q i), unfound (c .stateAt) a (c .state) (λ q. apart _ s 1 2 (lit< tt) (lit< tt) a q i),
-      found (c .scratchAt) a (m .scratch) l (omega arith) (omega (arith, w .scratch)))
+      rw (
+        w .batch,
+        w .state,
+        unfound (c .batchAt) a (c .batch) (λ q. apart _ s 0 2 (lit< tt) (lit< tt) a q i),
+        unfound (c .stateAt) a (c .state) (λ q. apart _ s 1 2 (lit< tt) (lit< tt) a q i),
+        found (c .scratchAt) a (m .scratch) l (omega arith) (omega (arith, w .scratch)),
+      )
 
   -- a store of a word there changes that word of scratch alone
   pub stored-word : (m : Machine) → Windowed c m → (a w : ℕ) → a % 4 ≡ 0 → InScratch c a
@@ -98,9 +103,11 @@ module _ (c : Capture) (s : Sound (windowsOf c)) where
       let here : InScratch c a = record { low = omega arith; high = omega arith } in
       let x : Windowed c n = record { batch = w .batch; state = w .state; scratch = length-set (m .scratch) _ v ∙ w .scratch } in
       let r = stored-words ws n x (a + 4) (omega arith) (record { low = omega arith; high = omega arith }) in
-      let t = r .2 in
-      (record { machine = r .0 .machine; stored = a ∷ r .0 .stored }, rw (stored-word m w a v e here, r .1),
-      record { at = t .at; second = t .second; kept = t .kept; windowed = t .windowed; inside = (here, t .inside) })
+      let t = r .2 in (
+        record { machine = r .0 .machine; stored = a ∷ r .0 .stored },
+        rw (stored-word m w a v e here, r .1),
+        record { at = t .at; second = t .second; kept = t .kept; windowed = t .windowed; inside = (here, t .inside) },
+      )
 
 -- a word in any of the windows can be loaded
 pub some-word : (l : List ℕ) (i : ℕ) → i < length l → getElem? l i ≡ some (getD l i 0)
