@@ -1,0 +1,2 @@
+pub mod Smallness
+pub mod Unique

@@ -1,0 +1,87 @@
+// The calls for programs in C: thin exports over the proved library. include/lungevati.h declares them.
+ghost use mathlib.Core.Path.{_≡_};
+ghost use Rattle.rules.specs.Records.{Checked};
+ghost use Rattle.walk.specs.Lent.{captureOf};
+ghost use Rattle.api.specs.Read.{Small, flatOf, ReadOut};
+use rules::Answer;
+use rules::Opened;
+
+// Checks a capture: `walk::check`, with its promise.
+#[no_mangle]
+pub extern "C" fn lungevati_check<'a>(
+    batch: &'a [u32],
+    batch_at: u64,
+    state: &'a [u32],
+    state_at: u64,
+    scratch_at: u64,
+    scratch_len: u32,
+    records: &mut [u32],
+) -> Answer
+    ensures { λ r. ⌜ Checked (captureOf (now (batch .entry)) «batch_at» (now (state .entry)) «state_at» «scratch_at» «scratch_len») (now (records .entry)) r (now (records .exit)) ⌝ }
+{
+    walk::check(
+        batch,
+        batch_at,
+        state,
+        state_at,
+        scratch_at,
+        scratch_len,
+        records,
+    )
+}
+
+// What reading a capture file gives: a refusal's number with all else 0, or what the trailer says.
+#[repr(C)]
+pub struct FileContents {
+    pub reason: u32,
+    pub window: u32,
+    pub index: u32,
+    pub count: u32,
+    pub batch_count: u32,
+    pub state_count: u32,
+    pub scratch_len: u32,
+    pub batch_at: u64,
+    pub state_at: u64,
+    pub scratch_at: u64,
+}
+
+// The answer of `capture::read` as numbers.
+fn flat(opened: Opened) -> FileContents
+    requires { ⌜ Small opened ⌝ }
+    ensures { λ r. ⌜ r ≡ flatOf opened ⌝ }
+{
+    match opened {
+        Opened::NotRead(reason) => FileContents {
+            reason: walk::answers::number(reason),
+            window: 0,
+            index: 0,
+            count: 0,
+            batch_count: 0,
+            state_count: 0,
+            scratch_len: 0,
+            batch_at: 0,
+            state_at: 0,
+            scratch_at: 0,
+        },
+        Opened::Holds(contents) => FileContents {
+            reason: 0,
+            window: 0,
+            index: 0,
+            count: 0,
+            batch_count: contents.batch.count as u32,
+            state_count: contents.state.count as u32,
+            scratch_len: contents.scratch.bytes as u32,
+            batch_at: contents.batch.at,
+            state_at: contents.state.at,
+            scratch_at: contents.scratch.at,
+        },
+    }
+}
+
+// Reads a capture file into two lent buffers: `capture::read`, with its promise.
+#[no_mangle]
+pub extern "C" fn lungevati_read(file: &[u8], batch: &mut [u32], state: &mut [u32]) -> FileContents
+    ensures { λ r. ⌜ ReadOut (now (file .entry)) (now (batch .entry)) (now (state .entry)) r (now (batch .exit)) (now (state .exit)) ⌝ }
+{
+    flat(capture::read(file, batch, state))
+}
