@@ -1,0 +1,1132 @@
+/*
+ * Captures from a seed. First a run that is meant to be accepted: blocks of commands joined by jumps, second-level batches
+ * that are called once or often, structures in both lent windows, every value at its edges as often as between them. Then,
+ * for most captures, one of document 01's numbers is aimed at, and a rule broken in one command. The aim may miss: what the
+ * answer is, the checkers say, and the harness counts.
+ */
+#include "generate.h"
+#include "checker.h"
+
+enum {
+    NOOP, BATCH_END, BATCH_START, LOAD_IMM, STORE_IMM, STORE_REG, LOAD_REG, PIPE_CONTROL, PIPELINE_SELECT, BASE_ADDRESS,
+    VERTEX_BUFFERS, VERTEX_ELEMENTS, INDEX_BUFFER, TOPOLOGY, VIEWPORT, COLOUR_CALC, PRIMITIVE, ROWS
+};
+
+enum { PAGE = 4096, LIMIT = 4096, BUDGET = 65536, BLOCKS = 12, COMMANDS = 4096 };
+
+/* What a capture is aimed at, beside the numbers 1 to 18. */
+enum { ACCEPTED = 0, ENDLESS_RUN = 19, EXACT_RUN, FLIPPED, NOISE };
+
+static const uint64_t TOP = (uint64_t)1 << 48;
+
+struct command {
+    uint32_t at, row, length;
+    uint32_t *structure; /* the words that it reads, if any */
+    int second;          /* stands in a second-level batch */
+};
+
+static struct maker {
+    struct capture *c;
+    struct dice dice;
+    int aim;
+    int fixed_base;           /* one dynamic base for the whole run, set by its first command */
+    int has_base;             /* and whether the block at hand knows its base */
+    uint64_t base;
+    uint32_t at, limit;       /* the next free dword of the batch, and where code must end */
+    int whole;                /* the batch has the planned length, whatever the code takes of it */
+    uint32_t data;            /* structures stand in the batch from here on */
+    uint32_t hidden;          /* commands that stand inside another's operands, or 0 */
+    uint32_t starts[BLOCKS];
+    uint32_t patches[COMMANDS], targets[COMMANDS], patched; /* low dwords of targets, and the blocks that they mean */
+    struct command commands[COMMANDS];
+    uint32_t made;
+} m;
+
+/* ---- Numbers ---- */
+
+void dice_start(struct dice *d, uint64_t seed, uint64_t number)
+{
+    d->state = (seed ^ 0x9E3779B97F4A7C15) * 0xD1342543DE82EF95 + number * 0xA24BAED4963EE407;
+    for (int i = 0; i < 4; i++) dice_roll(d);
+    if (d->state == 0) d->state = 1;
+}
+
+uint64_t dice_roll(struct dice *d) /* xorshift64* */
+{
+    d->state ^= d->state >> 12;
+    d->state ^= d->state << 25;
+    d->state ^= d->state >> 27;
+    return d->state * 0x2545F4914F6CDD1D;
+}
+
+static uint32_t word(void) { return (uint32_t)(dice_roll(&m.dice) >> 32); }
+static uint32_t below(uint32_t n) { return n ? (uint32_t)((uint64_t)word() * n >> 32) : 0; }
+static int one_in(uint32_t n) { return below(n) == 0; }
+#define PICK(list) ((list)[below(sizeof(list) / sizeof((list)[0]))])
+
+static uint64_t rounded(uint64_t bytes) { return (bytes + PAGE - 1) / PAGE * PAGE; }
+
+/* ---- Windows ---- */
+
+struct window {
+    uint64_t at, bytes;
+};
+
+static struct window window(uint32_t which)
+{
+    const struct capture *c = m.c;
+    if (which == 0) return (struct window){c->batch_at, 4 * c->batch_len};
+    if (which == 1) return (struct window){c->state_at, 4 * c->state_len};
+    return (struct window){c->scratch_at, c->scratch_len};
+}
+
+/* The same for commands that are being made: a batch that will end with its code is as long as the code so far. */
+static struct window sure_window(uint32_t which)
+{
+    struct window w = window(which);
+    if (which == 0 && !m.whole) w.bytes = 4 * (uint64_t)m.at;
+    return w;
+}
+
+static uint32_t scratch_length(void)
+{
+    static const uint32_t edges[] = {0, 1, 3, 4, 7, 8, 12, 16, 4095, 4096, 4097, 4100, 8192, 0xFFFFFFFF, 0xFFFFF000};
+    return one_in(3) ? PICK(edges) : one_in(4) ? below(1 << 20) : 4096 * (1 + below(4));
+}
+
+static size_t batch_length(void)
+{
+    static const uint32_t edges[] = {1024, 2048, 3072, 4096};
+    uint32_t kind = below(16);
+    if (kind == 0) return PICK(edges);
+    if (kind == 1) return 400 + below(3600);
+    if (kind < 6) return 100 + below(400);
+    return 20 + below(140);
+}
+
+/* A structure's end is as often at the window's end, or just past it, as inside. */
+static size_t state_length(void)
+{
+    static const uint32_t ends[] = {1, 2, 5, 6, 9, 10, 16};
+    static const uint32_t edges[] = {0, 1024, 4096};
+    return one_in(6) ? PICK(edges) : 16 * below(one_in(8) ? 255 : 12) + PICK(ends);
+}
+
+static void address(uint32_t which, uint64_t at)
+{
+    if (which == 0) m.c->batch_at = at;
+    if (which == 1) m.c->state_at = at;
+    if (which == 2) m.c->scratch_at = at;
+}
+
+/* The three in any order, one after the other, each as near to the one before as it can be or a few pages on. */
+static void in_a_row(uint64_t from, int gaps)
+{
+    uint32_t first = below(3), turn = 1 + below(2);
+    for (uint32_t i = 0, which = first; i < 3; i++, which = (which + turn) % 3) {
+        address(which, from);
+        from += rounded(window(which).bytes) + (gaps ? PAGE * (uint64_t)below(3) : 0);
+    }
+}
+
+static uint64_t all_pages(void)
+{
+    return rounded(window(0).bytes) + rounded(window(1).bytes) + rounded(window(2).bytes);
+}
+
+static void place_windows(void)
+{
+    switch (below(6)) {
+    case 0:
+        m.c->batch_at = 0x100000, m.c->state_at = 0x200000, m.c->scratch_at = 0x300000;
+        break;
+    case 1: in_a_row(PAGE * (uint64_t)below(1 << 20), one_in(2)); break;
+    case 2: in_a_row(TOP - all_pages(), 0); break;
+    case 3: in_a_row(((uint64_t)1 + below(64)) * ((uint64_t)1 << 32) - PAGE * (uint64_t)(1 + below(5)), one_in(2)); break;
+    case 4: in_a_row(0, one_in(2)); break;
+    default: /* far apart: each in a part of its own */
+        for (uint32_t i = 0; i < 3; i++)
+            address(i, (uint64_t)i * (TOP / 4) + PAGE * (uint64_t)below(0x7FFFFFFF));
+    }
+    /* An empty window may stand anywhere. */
+    for (uint32_t i = 1; i < 3; i++)
+        if (window(i).bytes == 0 && one_in(2)) address(i, one_in(3) ? TOP : window(0).at + PAGE * (uint64_t)below(2));
+}
+
+/* ---- Structures: 16 dwords each hold a colour state and a depth range, or two depth ranges ---- */
+
+static uint32_t not_nan(void)
+{
+    static const uint32_t edges[] = {0,          0x80000000, 0x3F800000, 0xBF800000, 0x7F800000, 0xFF800000, 1,
+                                     0x80000001, 0x007FFFFF, 0x807FFFFF, 0x7F7FFFFF, 0xFF7FFFFF, 0x40000000, 0xC0000000};
+    uint32_t bits = one_in(2) ? PICK(edges) : word();
+    return (bits & 0x7FFFFFFF) > 0x7F800000 ? bits & 0xBFFFFFFF : bits;
+}
+
+static uint32_t nan_bits(void)
+{
+    static const uint32_t edges[] = {0x7F800001, 0xFF800001, 0x7FC00000, 0xFFC00000, 0x7FFFFFFF, 0xFFFFFFFF, 0x7FBFFFFF};
+    return PICK(edges);
+}
+
+/* Where a float stands among the others; the zeros stand together. */
+static long rank(uint32_t bits)
+{
+    long size = (long)(bits & 0x7FFFFFFF);
+    return bits >> 31 ? -size : size;
+}
+
+static void fill_depths(uint32_t *words)
+{
+    uint32_t a = not_nan(), b = one_in(6) ? a : not_nan();
+    if (one_in(8)) a = word() & 0x80000000, b = word() & 0x80000000;
+    words[0] = rank(a) <= rank(b) ? a : b;
+    words[1] = rank(a) <= rank(b) ? b : a;
+}
+
+static void fill_colours(uint32_t *words)
+{
+    words[0] = word() & 0xFFFF8001;
+    words[1] = word();
+    for (int i = 2; i < 6; i++) words[i] = not_nan();
+}
+
+static int holds_colours(uint32_t index) { return index / 16 % 2 == 0; }
+
+static void fill_structures(uint32_t *words, uint32_t from, uint32_t end)
+{
+    for (uint32_t i = from; i < end; i++) words[i] = word();
+    for (uint32_t i = from; i < end; i += 16) {
+        if (holds_colours(i) && i + 6 <= end) fill_colours(words + i);
+        if (!holds_colours(i) && i + 2 <= end) fill_depths(words + i);
+        if (i + 10 <= end) fill_depths(words + i + 8);
+    }
+}
+
+/* A structure of this kind that the base reaches: its words, and the pointer to it. */
+static uint32_t *find_structure(int colours, uint32_t *pointer)
+{
+    struct capture *c = m.c;
+    uint32_t size = colours ? 6 : 2;
+    for (int tries = 0; tries < 12; tries++) {
+        int in_state = one_in(2);
+        uint32_t from = in_state ? 0 : m.data, end = (uint32_t)(in_state ? c->state_len : c->batch_len);
+        uint32_t index = from + 16 * (one_in(2) ? (end - from) / 16 : below((end - from + 15) / 16));
+        if (!colours && (holds_colours(index) || one_in(2))) index += 8;
+        uint64_t distance = (in_state ? c->state_at : c->batch_at) + 4 * index - m.base;
+        if (from >= end || index + size > end || (colours && !holds_colours(index)) || distance >> 32) continue;
+        *pointer = (uint32_t)distance;
+        return (in_state ? c->state : c->batch) + index;
+    }
+    return 0;
+}
+
+/* A base from which a lent window can be reached: near it, or as far below as a pointer goes. */
+static uint64_t some_base(void)
+{
+    struct window w = window(one_in(2) ? 1 : 0);
+    uint64_t back = one_in(3) ? 0 : one_in(2) ? PAGE * (uint64_t)below(8) : PAGE * (uint64_t)below(1 << 20);
+    if (w.bytes > PAGE && one_in(4)) return w.at + PAGE;
+    if (w.at == TOP) return TOP - PAGE; /* an empty window, and no base goes so far */
+    return w.at >= back ? w.at - back : 0;
+}
+
+/* ---- Commands that keep the rules ---- */
+
+/* The table once more: header, dwords (or 0: groups, and how many), allowed bits of each dword or of one group. */
+static const struct {
+    uint32_t header, open, length, group, most, bits[16];
+} table[ROWS] = {
+    [NOOP] = {0x00000000, 0x3FFFFF, 1, 0, 0, {0}},
+    [BATCH_END] = {0x05000000, 0, 1, 0, 0, {0}},
+    [BATCH_START] = {0x18800000, 0x400100, 3, 0, 0, {0, 0xFFFFFFFC, 0xFFFF}},
+    [LOAD_IMM] = {0x11000000, 0, 0, 2, 64, {0, 0x7FFFFC, ~0u}},
+    [STORE_IMM] = {0x10000000, 0x200000, 4, 0, 0, {0, 0xFFFFFFFC, 0xFFFF, ~0u, ~0u}},
+    [STORE_REG] = {0x12000000, 0, 4, 0, 0, {0, 0x7FFFFC, 0xFFFFFFFC, 0xFFFF}},
+    [LOAD_REG] = {0x14800000, 0, 4, 0, 0, {0, 0x7FFFFC, 0xFFFFFFFC, 0xFFFF}},
+    [PIPE_CONTROL] = {0x7A000000, 0, 6, 0, 0, {0, 0x10FCBF, 0xFFFFFFFC, 0xFFFF, ~0u, ~0u}},
+    [PIPELINE_SELECT] = {0x69040000, 0, 1, 0, 0, {0}},
+    [BASE_ADDRESS] = {0x61010000, 0, 16, 0, 0,
+                      {0, 0xFFFFF7F1, 0xFFFF, 0x7F0000, 0xFFFFF7F1, 0xFFFF, 0xFFFFF7F1, 0xFFFF, 0xFFFFF7F1, 0xFFFF,
+                       0xFFFFF7F1, 0xFFFF, 0xFFFFF001, 0xFFFFF001, 0xFFFFF001, 0xFFFFF001}},
+    [VERTEX_BUFFERS] = {0x78080000, 0, 0, 4, 33, {0, 0xFC7F6FFF, ~0u, 0xFFFF, ~0u}},
+    [VERTEX_ELEMENTS] = {0x78090000, 0, 0, 2, 34, {0, 0xFFFF8FFF, 0x77770000}},
+    [INDEX_BUFFER] = {0x780A0000, 0, 5, 0, 0, {0, 0x37F, ~0u, 0xFFFF, ~0u}},
+    [TOPOLOGY] = {0x784B0000, 0, 2, 0, 0, {0, 0x3F}},
+    [VIEWPORT] = {0x78230000, 0, 2, 0, 0, {0, 0xFFFFFFE0}},
+    [COLOUR_CALC] = {0x780E0000, 0, 2, 0, 0, {0, 0xFFFFFFC1}},
+    [PRIMITIVE] = {0x7B000000, 0x700, 7, 0, 0, {0, 0x33F, ~0u, ~0u, ~0u, ~0u, ~0u}},
+};
+
+static uint32_t allowed(uint32_t row, uint32_t dword)
+{
+    return table[row].bits[table[row].group ? 1 + (dword - 1) % table[row].group : dword];
+}
+
+/* The header's low bits hold no length field in these rows. */
+static int fieldless(uint32_t row) { return table[row].length == 1; }
+
+static uint32_t good_register(void)
+{
+    static const uint32_t list[] = {0x2400, 0x2404, 0x2408, 0x240C, 0x2420, 0x2430, 0x2434, 0x2438,
+                                    0x243C, 0x2440, 0x2600, 0x2604, 0x2678, 0x267C};
+    return one_in(4) ? 0x2600 + 4 * below(32) : PICK(list);
+}
+
+static uint32_t good_format(void)
+{
+    static const uint32_t ranges[][2] = {{0x000, 0x008}, {0x020, 0x021}, {0x040, 0x046}, {0x080, 0x096}, {0x0A0, 0x0A1},
+                                         {0x0C7, 0x0D3}, {0x0E3, 0x0EE}, {0x100, 0x11F}, {0x140, 0x150}, {0x193, 0x198},
+                                         {0x1B0, 0x1BD}, {0x050, 0x050}, {0x181, 0x181}, {0x18E, 0x18E}, {0x1C8, 0x1C9}};
+    const uint32_t *range = PICK(ranges);
+    return range[0] + below(range[1] - range[0] + 1);
+}
+
+static uint32_t good_components(void)
+{
+    uint32_t used = 1 + below(4), dword = 0;
+    for (uint32_t i = 0; i < 4; i++) dword = dword << 4 | (i < used ? 1 + below(4) : 0);
+    return dword << 16;
+}
+
+static uint32_t good_topology(void)
+{
+    static const uint32_t edges[] = {0x01, 0x14, 0x16, 0x20, 0x3F};
+    return one_in(2) ? PICK(edges) : one_in(2) ? 1 + below(20) : 0x20 + below(32);
+}
+
+static void put_address(uint32_t *low, uint64_t at)
+{
+    low[0] = (uint32_t)at;
+    low[1] = (uint32_t)(at >> 32);
+}
+
+/* `size` bytes in a window, at a multiple of `step`: at its start or end as often as between. 0: it has no room. */
+static int good_place(struct window w, uint64_t size, uint64_t step, uint64_t *at)
+{
+    if (size > w.bytes) return 0;
+    uint64_t places = (w.bytes - size) / step + 1;
+    uint64_t which = one_in(4) ? 0 : one_in(3) ? places - 1 : dice_roll(&m.dice) % places;
+    *at = w.at + which * step;
+    return 1;
+}
+
+static int good_address(uint32_t *low, uint32_t which, uint64_t size)
+{
+    uint64_t at;
+    if (!good_place(sure_window(which), size, size, &at)) return 0;
+    put_address(low, at);
+    return 1;
+}
+
+/* A range of bytes in one window: also the whole of it, and a single byte at either end. */
+static void good_range(uint32_t *low, uint32_t *size)
+{
+    struct window w = sure_window(below(3));
+    uint64_t at = 0;
+    *size = 0;
+    put_address(low, (dice_roll(&m.dice) >> 16));
+    if (w.bytes == 0 || one_in(8)) return; /* no bytes: wherever it is */
+    uint64_t most = one_in(4) ? w.bytes : 1 + below((uint32_t)w.bytes);
+    good_place(w, most, 1, &at);
+    put_address(low, at);
+    *size = (uint32_t)most;
+}
+
+/* Each of these makes the rest of a command good whose operands are any allowed bits so far. 0: not possible here. */
+
+static int good_load_imm(uint32_t *cmd, uint32_t length)
+{
+    for (uint32_t i = 1; i < length; i += 2) cmd[i] = good_register();
+    return 1;
+}
+
+static int good_register_memory(uint32_t *cmd, uint32_t which)
+{
+    cmd[1] = good_register();
+    return good_address(cmd + 2, which, 4);
+}
+
+static int good_pipe_control(uint32_t *cmd)
+{
+    if (one_in(2)) {
+        cmd[1] &= ~0xC000u;
+        cmd[2] = cmd[3] = cmd[4] = cmd[5] = 0;
+        return 1;
+    }
+    cmd[1] |= (1 + below(3)) << 14;
+    return good_address(cmd + 2, 2, 8);
+}
+
+static int good_base_address(uint32_t *cmd)
+{
+    cmd[6] &= ~1u;
+    if (m.aim == 14 || (m.fixed_base && m.has_base && !one_in(4))) return 1; /* bit 0 clear: the base stays */
+    if (!m.fixed_base || !m.has_base) m.base = some_base();
+    m.has_base = 1;
+    put_address(cmd + 6, m.base | (cmd[6] & 0x7F0) | 1);
+    return 1;
+}
+
+static int good_vertex_buffers(uint32_t *cmd, uint32_t length)
+{
+    static const uint32_t pitches[] = {0, 1, 2047, 2048}, indices[] = {0, 31, 32};
+    for (uint32_t i = 1; i < length; i += 4) {
+        uint32_t index = one_in(2) ? PICK(indices) : below(33), pitch = one_in(2) ? PICK(pitches) : below(2049);
+        cmd[i] = (cmd[i] & 0x007F6000) | index << 26 | pitch;
+        if ((cmd[i] & 0x6000) == 0x4000) good_range(cmd + i + 1, cmd + i + 3);
+    }
+    return 1;
+}
+
+static int good_vertex_elements(uint32_t *cmd, uint32_t length)
+{
+    for (uint32_t i = 1; i < length; i += 2) {
+        cmd[i] = (cmd[i] & 0x02008FFF) | (one_in(4) ? 32 : below(33)) << 26 | good_format() << 16;
+        cmd[i + 1] = good_components();
+    }
+    return 1;
+}
+
+static int good_index_buffer(uint32_t *cmd)
+{
+    cmd[1] = (cmd[1] & 0x7F) | below(3) << 8;
+    good_range(cmd + 2, cmd + 4);
+    return 1;
+}
+
+static int good_pointer(uint32_t *cmd, struct command *made)
+{
+    uint32_t used = made->row == COLOUR_CALC;
+    if (used && one_in(5)) return cmd[1] &= ~1u, 1; /* not used, so any pointer at all */
+    if (m.aim == 14) return cmd[1] |= used, 1;
+    if (!m.has_base || !(made->structure = find_structure(made->row == COLOUR_CALC, &cmd[1]))) return 0;
+    cmd[1] |= used;
+    return 1;
+}
+
+static int good_primitive(uint32_t *cmd)
+{
+    cmd[0] |= word() & 0x700;
+    if ((cmd[1] & 0x200) == 0) return 1;
+    cmd[0] &= ~0x400u;
+    cmd[1] &= ~0x100u;
+    cmd[3] = cmd[5] = cmd[6] = 0;
+    return 1;
+}
+
+static int good(uint32_t *cmd, struct command *made)
+{
+    switch (made->row) {
+    case NOOP: return cmd[0] = one_in(2) ? 0 : word() & 0x3FFFFF, 1;
+    case LOAD_IMM: return good_load_imm(cmd, made->length);
+    case STORE_IMM: return good_address(cmd + 1, 2, made->length == 5 ? 8 : 4);
+    case STORE_REG: return good_register_memory(cmd, 2);
+    case LOAD_REG: return good_register_memory(cmd, below(3));
+    case PIPE_CONTROL: return good_pipe_control(cmd);
+    case BASE_ADDRESS: return good_base_address(cmd);
+    case VERTEX_BUFFERS: return good_vertex_buffers(cmd, made->length);
+    case VERTEX_ELEMENTS: return good_vertex_elements(cmd, made->length);
+    case INDEX_BUFFER: return good_index_buffer(cmd);
+    case TOPOLOGY: return cmd[1] = good_topology(), 1;
+    case VIEWPORT:
+    case COLOUR_CALC: return good_pointer(cmd, made);
+    case PRIMITIVE: return good_primitive(cmd);
+    default: return 1;
+    }
+}
+
+/* The shortest or the longest of a row as often as one between; `most` bounds it. 0: even the shortest is too long. */
+static uint32_t some_length(uint32_t row, uint32_t most)
+{
+    uint32_t group = table[row].group, fit = most ? (most - 1) / (group ? group : 1) : 0;
+    if (row == STORE_IMM && most > 4) return 4 + below(2);
+    if (!group) return table[row].length <= most ? table[row].length : 0;
+    if (fit > table[row].most) fit = table[row].most;
+    if (fit == 0) return 0;
+    uint32_t n = one_in(3) ? 1 : one_in(10) ? fit : 1 + below(fit < 4 ? fit : 4);
+    return group * n + 1;
+}
+
+/* ---- Blocks ---- */
+
+static struct command *note(uint32_t row, uint32_t length, int second)
+{
+    struct command *made = &m.commands[m.made++];
+    *made = (struct command){m.at, row, length, 0, second};
+    return made;
+}
+
+/* One more command of the row, if it fits before `end` and can be made to keep the rules. */
+static int emit(uint32_t row, uint32_t end, int second)
+{
+    uint32_t length = some_length(row, end > m.at ? end - m.at : 0), *cmd = m.c->batch + m.at;
+    if (length == 0 || m.made == COMMANDS) return 0;
+    struct command *made = note(row, length, second);
+    cmd[0] = table[row].header | (fieldless(row) ? 0 : length - 2) | (row == STORE_IMM && length == 5 ? 0x200000 : 0);
+    for (uint32_t i = 1; i < length; i++) cmd[i] = word() & allowed(row, i);
+    if (!good(cmd, made)) return m.made--, 0;
+    m.at += length;
+    return 1;
+}
+
+/* A start that goes to a block, whose place is not known yet, or to the dword `to` if that is not 0. */
+static void emit_start(int call, uint32_t block, uint32_t to)
+{
+    uint32_t *cmd = m.c->batch + m.at;
+    note(BATCH_START, 3, 0);
+    cmd[0] = 0x18800101 | (call ? 0x400000 : 0);
+    put_address(cmd + 1, m.c->batch_at + 4 * (uint64_t)to);
+    if (to == 0) m.patches[m.patched] = m.at + 1, m.targets[m.patched++] = block;
+    if (call && !m.fixed_base) m.has_base = 0; /* the batch that is called may set another */
+    m.at += 3;
+}
+
+static void emit_end(int second)
+{
+    note(BATCH_END, 1, second);
+    m.c->batch[m.at++] = 0x05000000;
+}
+
+static void patch(void)
+{
+    for (uint32_t i = 0; i < m.patched; i++)
+        put_address(m.c->batch + m.patches[i], m.c->batch_at + 4 * (uint64_t)m.starts[m.targets[i]]);
+}
+
+/* A primitive whose operands are commands themselves, up to an end: a second-level batch in the middle of a command. */
+static void emit_hiding(uint32_t end)
+{
+    if (m.at + 7 > end || m.made == COMMANDS) return;
+    uint32_t *cmd = m.c->batch + m.at;
+    note(PRIMITIVE, 7, 0);
+    cmd[0] = 0x7B000005;
+    cmd[1] = word() & 0x13F;
+    for (uint32_t i = 2; i < 6; i++) cmd[i] = one_in(2) ? word() & 0x3FFFFF : 0x69040000;
+    cmd[6] = 0x05000000;
+    m.hidden = m.at + 2 + below(5);
+    m.at += 7;
+}
+
+static uint32_t some_row(void)
+{
+    static const uint8_t often[] = {NOOP, NOOP, LOAD_IMM, STORE_IMM, STORE_IMM, STORE_REG, LOAD_REG, PIPE_CONTROL,
+                                    PIPE_CONTROL, PIPELINE_SELECT, BASE_ADDRESS, VERTEX_BUFFERS, VERTEX_ELEMENTS,
+                                    INDEX_BUFFER, TOPOLOGY, VIEWPORT, VIEWPORT, COLOUR_CALC, COLOUR_CALC, PRIMITIVE};
+    if (m.aim >= 14 && m.aim <= 17 && one_in(2)) return one_in(2) && m.aim != 16 ? VIEWPORT : COLOUR_CALC;
+    return PICK(often);
+}
+
+struct shape {
+    uint32_t mains, seconds; /* first-level blocks, which follow one another; and second-level ones, which are called */
+};
+
+/* The commands of a block up to `end`; what ends it stands after them. */
+static void emit_commands(struct shape s, uint32_t end, uint32_t commands, int second)
+{
+    for (uint32_t i = 0; i < commands; i++) {
+        if (m.at + 3 <= end && m.made < COMMANDS && !second && s.seconds > 0 && one_in(m.aim == 11 ? 2 : 4))
+            emit_start(1, s.mains + below(s.seconds), m.hidden && one_in(3) ? m.hidden : 0);
+        else if (!second && one_in(20))
+            emit_hiding(end);
+        else if (!emit(some_row(), end, second))
+            emit(NOOP, end, second);
+    }
+}
+
+static void junk(uint32_t count)
+{
+    while (count-- > 0 && m.at < m.limit) m.c->batch[m.at++] = one_in(4) ? 0x05000000 : word();
+}
+
+/* `tail`: what the blocks still to come need for their jumps and ends. */
+static void emit_block(struct shape s, uint32_t block, uint32_t tail, uint32_t commands)
+{
+    int second = block >= s.mains;
+    uint32_t end = m.limit > tail + 3 ? m.limit - tail - 3 : 0;
+    m.starts[block] = m.at;
+    if (!m.fixed_base) m.has_base = 0;
+    if (block == 0 && m.fixed_base) m.fixed_base = emit(BASE_ADDRESS, end, 0);
+    emit_commands(s, end, commands, second);
+    if (second || block + 1 == s.mains) emit_end(second);
+    else emit_start(0, block + 1, 0);
+}
+
+/* Block 0 stands first, the others in any order after it, with junk between them. */
+static void emit_blocks(struct shape s)
+{
+    uint32_t blocks = s.mains + s.seconds, order[BLOCKS] = {0}, commands = 1 + below(one_in(4) ? 400 : 12);
+    for (uint32_t i = 0; i < blocks; i++) {
+        uint32_t j = i > 1 ? 1 + below(i) : i;
+        order[i] = order[j];
+        order[j] = i;
+    }
+    for (uint32_t i = 0; i < blocks; i++) {
+        emit_block(s, order[i], 3 * (blocks - i - 1), commands);
+        if (one_in(3) && m.at + 3 * (blocks - i - 1) + 3 <= m.limit) junk(below(4));
+    }
+    patch();
+}
+
+/* ---- Runs ---- */
+
+/* A run that ought to be accepted. The batch ends with the code, or later, with structures or junk in between. */
+static void make_run(void)
+{
+    struct capture *c = m.c;
+    struct shape s = {1 + below(one_in(3) ? 5 : 1), below(one_in(2) ? 6 : 1)};
+    uint32_t planned = (uint32_t)c->batch_len;
+    if (m.aim == 11) s.seconds++;
+    if (planned < 3 * (s.mains + s.seconds) + 1) s = (struct shape){1, 0};
+
+    m.data = m.whole && planned >= 128 ? (planned - 16 * below(4)) / 16 * 16 : planned;
+    m.limit = m.data;
+    fill_structures(c->batch, m.data, planned);
+    emit_blocks(s);
+    if (!m.whole) c->batch_len = m.at;
+    for (uint32_t i = m.at; m.whole && i < m.data; i++) c->batch[i] = one_in(3) ? 0 : word();
+}
+
+static void emit_short(uint32_t end, int second)
+{
+    static const uint8_t rows[] = {NOOP, NOOP, NOOP, STORE_IMM, STORE_REG, LOAD_REG, PIPE_CONTROL, PIPELINE_SELECT, TOPOLOGY};
+    if (!emit(PICK(rows), end, second)) emit(NOOP, end, second);
+}
+
+/* A loop that never ends; at its smallest a start that goes to itself. */
+static void make_endless(void)
+{
+    uint32_t before = below(3) * below(20), in_loop = below(3) * below(20), calls = one_in(2);
+    m.limit = LIMIT, m.whole = 0;
+    for (uint32_t i = 0; i < before; i++) emit_short(1000, 0);
+    uint32_t loop = m.at;
+    for (uint32_t i = 0; i < in_loop; i++) emit_short(2000, 0);
+    if (calls) emit_start(1, 1, 0);
+    emit_start(0, 0, loop);
+    if (loop == 0) m.starts[0] = 0;
+    m.starts[1] = m.at;
+    for (uint32_t i = 0; i < below(20); i++) emit_short(3000, 1);
+    emit_end(1);
+    patch();
+    m.c->batch_len = m.at;
+}
+
+/*
+ * A run of a number of commands that is at the budget or next to it: a second-level batch, called again and again, and so many
+ * single commands after the calls that the sum is right. It ends properly, or runs out at the batch's last dword.
+ */
+static void make_exact(void)
+{
+    uint32_t total = BUDGET - 2 + below(5), ends = !one_in(3), jumps = !ends || one_in(2);
+    uint32_t calls = 20 + below(60), each = (total - jumps - 1) / calls, singles = (total - jumps - 1) % calls;
+    uint32_t main_dwords = 3 * calls + singles + 1, first = jumps ? 3 : main_dwords;
+    m.limit = LIMIT, m.whole = 0;
+    if (jumps) emit_start(0, 1, 0);
+    for (int part = 0; part < 2; part++) {
+        if (part == (int)jumps) {
+            m.starts[1] = m.at;
+            for (uint32_t i = 0; i < calls; i++) emit_start(1, 0, first);
+            for (uint32_t i = 0; i < singles; i++) emit(NOOP, LIMIT, 0);
+            if (ends) emit_end(0);
+            else emit(NOOP, LIMIT, 0);
+        } else {
+            uint32_t after = 1 + (jumps ? main_dwords : 0); /* what must still fit behind this batch */
+            for (uint32_t i = each - 2; i > 0; i--) emit_short(LIMIT - after - (i - 1), 1);
+            emit_end(1);
+        }
+    }
+    patch();
+    m.c->batch_len = m.at;
+}
+
+/* Headers with anything behind them. */
+static void make_noise(void)
+{
+    struct capture *c = m.c;
+    for (uint32_t i = 0; i < c->batch_len; i++) {
+        uint32_t row = below(ROWS), header = table[row].header | (word() & table[row].open);
+        c->batch[i] = one_in(2) ? header | (fieldless(row) ? 0 : below(20)) : one_in(3) ? 0 : word();
+    }
+}
+
+/* ---- Faults in windows: 1 to 4 ---- */
+
+static void lengthen(uint32_t *words, size_t *len)
+{
+    size_t longer = LIMIT + 1 + below(one_in(2) ? 1 : LENT_MOST - LIMIT);
+    for (size_t i = *len; i < longer; i++) words[i] = 0;
+    *len = longer;
+}
+
+static void spoil_counts(void)
+{
+    struct capture *c = m.c;
+    if (one_in(3)) c->batch_len = 0;
+    else if (one_in(2)) lengthen(c->batch, &c->batch_len);
+    else lengthen(c->state, &c->state_len);
+}
+
+static void spoil_alignment(void)
+{
+    static const uint32_t edges[] = {1, 2, 4, 8, 64, 2048, 4092, 4095};
+    uint32_t which = below(3);
+    address(which, window(which).at + (one_in(2) ? PICK(edges) : 1 + below(4095)));
+}
+
+static void spoil_height(void)
+{
+    uint32_t which = below(3);
+    uint64_t pages = rounded(window(which).bytes);
+    const uint64_t edges[] = {TOP, TOP - pages + PAGE, TOP + PAGE, TOP - pages, (uint64_t)1 << 63, (uint64_t)0 - PAGE,
+                              (uint64_t)0 - pages, ((uint64_t)1 << 63) - PAGE};
+    address(which, PICK(edges));
+}
+
+static void spoil_apartness(void)
+{
+    uint32_t which = below(3), other = (which + 1 + below(2)) % 3;
+    struct window w = window(which), o = window(other);
+    const uint64_t edges[] = {o.at, o.at + rounded(o.bytes) - PAGE, o.at - rounded(w.bytes) + PAGE,
+                              o.at + rounded(o.bytes), o.at - rounded(w.bytes)};
+    address(which, PICK(edges));
+}
+
+static void spoil_windows(int number)
+{
+    switch (number) {
+    case 1: spoil_counts(); break;
+    case 2: spoil_alignment(); break;
+    case 3: spoil_height(); break;
+    default: spoil_apartness();
+    }
+}
+
+/* ---- Faults in commands: each says whether the command could be given one ---- */
+
+static int spoil_key(uint32_t *cmd, const struct command *made)
+{
+    uint32_t lowest = made->row < PIPE_CONTROL ? 23 : 16;
+    cmd[0] = one_in(6) ? word() : cmd[0] ^ 1u << (lowest + below(32 - lowest));
+    return 1;
+}
+
+static int spoil_length(uint32_t *cmd, const struct command *made)
+{
+    uint32_t group = table[made->row].group, field = cmd[0] & 0xFF;
+    const uint32_t fields[] = {field + 1, field - 1, field + 2, field + 4, 0, 0xFF, word(), group * table[made->row].most + group - 1};
+    if (fieldless(made->row)) return 0;
+    if (made->row == STORE_IMM && one_in(2)) return cmd[0] ^= 0x200000, 1;
+    cmd[0] = (cmd[0] & ~0xFFu) | (PICK(fields) & 0xFF);
+    return 1;
+}
+
+static int spoil_bits(uint32_t *cmd, const struct command *made)
+{
+    uint32_t dword = one_in(4) ? 0 : below(made->length), bit = below(32);
+    uint32_t outside = dword ? ~allowed(made->row, dword) : ~table[made->row].open;
+    if (dword == 0) outside &= (made->row < PIPE_CONTROL ? 0x7FFFFF : 0xFFFF) & (fieldless(made->row) ? ~0u : ~0xFFu);
+    if (outside == 0) return 0;
+    while ((outside >> bit & 1) == 0) bit = (bit + 1) % 32;
+    cmd[dword] |= 1u << bit;
+    return 1;
+}
+
+static int spoil_nesting(uint32_t *cmd, const struct command *made)
+{
+    if (!made->second || made->at + 3 > m.c->batch_len) return 0;
+    cmd[0] = 0x18800001 | (one_in(4) ? 0 : 0x100) | (one_in(2) ? 0x400000 : 0);
+    put_address(cmd + 1, one_in(4) ? word() & ~3u : m.c->batch_at);
+    return 1;
+}
+
+static uint32_t bad_register(void)
+{
+    static const uint32_t list[] = {0x2410, 0x2414, 0x241C, 0x2424, 0x242C, 0x2444, 0x2448, 0x23FC, 0x25FC, 0x2680, 0, 0x7FFFFC};
+    return one_in(5) ? word() & 0x7FFFFC : one_in(5) ? good_register() ^ 1u << (2 + below(21)) : PICK(list);
+}
+
+static int spoil_load_imm(uint32_t *cmd, uint32_t length)
+{
+    cmd[1 + 2 * below((length - 1) / 2)] = bad_register();
+    return 1;
+}
+
+static int spoil_pipe_control(uint32_t *cmd)
+{
+    uint32_t dword = 2 + below(4), bits = allowed(PIPE_CONTROL, dword);
+    if (cmd[1] & 0xC000) return cmd[2] |= 4, 1;
+    cmd[dword] = one_in(2) ? word() & bits : 4u << below(8);
+    return 1;
+}
+
+static int spoil_buffer(uint32_t *cmd, uint32_t length)
+{
+    uint32_t *group = cmd + 1 + 4 * below((length - 1) / 4);
+    if (one_in(2)) *group = (*group & 0x03FFFFFF) | (33 + below(one_in(2) ? 1 : 31)) << 26;
+    else *group = (*group & ~0xFFFu) | (2049 + below(one_in(2) ? 1 : 2047));
+    return 1;
+}
+
+static int spoil_element(uint32_t *cmd, uint32_t length)
+{
+    uint32_t *group = cmd + 1 + 2 * below((length - 1) / 2);
+    switch (below(3)) {
+    case 0: group[0] = (group[0] & 0x03FFFFFF) | (33 + below(one_in(2) ? 1 : 31)) << 26; break;
+    case 1: group[0] = (group[0] & ~0x01FF0000u) | below(512) << 16; break;
+    default: group[1] = one_in(2) ? word() & 0x77770000 : group[1] ^ 1u << (16 + 4 * below(4) + below(3));
+    }
+    return 1;
+}
+
+static int spoil_primitive(uint32_t *cmd)
+{
+    static const uint32_t dwords[] = {3, 5, 6};
+    cmd[1] |= 0x200;
+    switch (below(3)) {
+    case 0: cmd[0] |= 0x400; break;
+    case 1: cmd[1] |= 0x100; break;
+    default: cmd[PICK(dwords)] = 1u << below(32);
+    }
+    return 1;
+}
+
+static int spoil_value(uint32_t *cmd, const struct command *made)
+{
+    static const uint32_t topologies[] = {0, 0x15, 0x17, 0x1F, 0x18};
+    switch (made->row) {
+    case BATCH_START: return cmd[0] &= ~0x100u, 1;
+    case LOAD_IMM: return spoil_load_imm(cmd, made->length);
+    case STORE_IMM: return cmd[1] |= 4, made->length == 5;
+    case STORE_REG:
+    case LOAD_REG: return cmd[1] = bad_register(), 1;
+    case PIPE_CONTROL: return spoil_pipe_control(cmd);
+    case VERTEX_BUFFERS: return spoil_buffer(cmd, made->length);
+    case VERTEX_ELEMENTS: return spoil_element(cmd, made->length);
+    case INDEX_BUFFER: return cmd[1] |= 0x300, 1;
+    case TOPOLOGY: return cmd[1] = PICK(topologies), 1;
+    case PRIMITIVE: return spoil_primitive(cmd);
+    default: return 0;
+    }
+}
+
+/* `size` bytes at a multiple of `step`, at the edge of a window, in another window or nowhere near. */
+static uint64_t bad_place(uint64_t size, uint64_t step, uint64_t at)
+{
+    struct window w = window(below(3));
+    const uint64_t edges[] = {w.at - step, (w.at + w.bytes) / step * step, (w.at + w.bytes - size) / step * step + step,
+                              TOP - step, w.at, dice_roll(&m.dice) / step * step, at ^ ((uint64_t)1 << (32 + below(16))),
+                              0, at + step, at - step};
+    return PICK(edges) % TOP;
+}
+
+static int spoil_address(uint32_t *low, uint64_t size)
+{
+    uint64_t at = low[0] | (uint64_t)low[1] << 32;
+    put_address(low, bad_place(size, size, at));
+    return 1;
+}
+
+/* A range that hangs over an edge of its window by as little as a byte, or whose end is past all addresses. */
+static int spoil_bytes(uint32_t *low, uint32_t *size)
+{
+    struct window w = window(below(3));
+    uint64_t inside = w.bytes ? dice_roll(&m.dice) % w.bytes : 0, left = w.bytes - inside;
+    uint64_t at = w.at + inside, bytes = left + 1 + (one_in(2) ? 0 : below(PAGE));
+    switch (below(4)) {
+    case 0: at = w.at - 1, bytes = 1 + below(4); break;
+    case 1: at = TOP - 1 - below(8), bytes = one_in(2) ? 0xFFFFFFFF : 1 + below(16); break;
+    case 2: bytes = 0xFFFFFFFF - below(2); break;
+    }
+    put_address(low, at % TOP);
+    *size = bytes > 0xFFFFFFFF ? 0xFFFFFFFF : (uint32_t)bytes;
+    return 1;
+}
+
+static int spoil_range(uint32_t *cmd, const struct command *made)
+{
+    uint32_t *group = cmd + 1 + 4 * below((made->length - 1) / 4);
+    switch (made->row) {
+    case BATCH_START: return spoil_address(cmd + 1, 4);
+    case STORE_IMM: return spoil_address(cmd + 1, made->length == 5 ? 8 : 4);
+    case STORE_REG:
+    case LOAD_REG: return spoil_address(cmd + 2, 4);
+    case PIPE_CONTROL: return (cmd[1] & 0xC000) ? spoil_address(cmd + 2, 8) : 0;
+    case VERTEX_BUFFERS:
+        if (!one_in(8)) group[0] = (group[0] & ~0x2000u) | 0x4000; /* else it may be of no account */
+        return spoil_bytes(group + 1, group + 3);
+    case INDEX_BUFFER: return spoil_bytes(cmd + 2, cmd + 4);
+    default: return 0;
+    }
+}
+
+/* A pointer to a structure that hangs over a window's end, stands just outside, or in scratch. */
+static int spoil_pointer(uint32_t *cmd, const struct command *made)
+{
+    uint64_t step = made->row == VIEWPORT ? 32 : 64;
+    if (!made->structure) return 0;
+    uint32_t pointer = (uint32_t)(bad_place(step, step, m.base) - m.base);
+    cmd[1] = (one_in(8) ? word() : pointer) & ~(uint32_t)(step - 1);
+    if (made->row == COLOUR_CALC) cmd[1] |= 1;
+    return 1;
+}
+
+static int spoil_structure_bits(const struct command *made)
+{
+    if (made->row != COLOUR_CALC || !made->structure) return 0;
+    made->structure[0] |= 1u << (1 + below(14));
+    return 1;
+}
+
+static int spoil_structure_value(const struct command *made)
+{
+    uint32_t *words = made->structure;
+    if (!words) return 0;
+    if (made->row == COLOUR_CALC) return words[2 + below(4)] = nan_bits(), 1;
+    if (one_in(2)) return words[below(2)] = nan_bits(), 1;
+    uint32_t first = words[0]; /* the wrong way round, unless they are equal */
+    words[0] = words[1], words[1] = first;
+    return 1;
+}
+
+static int spoil(int number, const struct command *made)
+{
+    uint32_t *cmd = m.c->batch + made->at;
+    switch (number) {
+    case 7: return spoil_key(cmd, made);
+    case 8: return spoil_length(cmd, made);
+    case 10: return spoil_bits(cmd, made);
+    case 11: return spoil_nesting(cmd, made);
+    case 12: return spoil_value(cmd, made);
+    case 13: return spoil_range(cmd, made);
+    case 15: return spoil_pointer(cmd, made);
+    case 16: return spoil_structure_bits(made);
+    case 17: return spoil_structure_value(made);
+    default: return 0;
+    }
+}
+
+/* Now and then a second fault in the same command, which must not change which one is named unless it goes first. */
+static void plant(int number)
+{
+    static const uint8_t seconds[] = {7, 8, 10, 10, 11, 12, 12, 13, 13, 15, 16, 17};
+    for (int tries = 0; tries < 40; tries++) {
+        const struct command *made = &m.commands[below(m.made)];
+        if (!spoil(number, made)) continue;
+        if (one_in(3)) spoil(one_in(3) ? number : PICK(seconds), made);
+        return;
+    }
+}
+
+/* The batch ends too early: after a command (6), or inside one (9). Best in the last one, or earlier jumps go astray. */
+static void cut_short(int number)
+{
+    struct capture *c = m.c;
+    struct command last = m.commands[one_in(4) ? below(m.made) : m.made - 1];
+    uint32_t row = below(ROWS), length = some_length(row, LIMIT - last.at), *cmd = c->batch + last.at;
+    if (number == 6 && one_in(3) && last.at + 3 <= LIMIT) { /* a call as the last command: what it keeps is the batch's end */
+        m.at = last.at;
+        emit_start(1, 0, m.starts[below(BLOCKS)]);
+        c->batch_len = m.at;
+    } else if (number == 6) {
+        if (last.row == BATCH_END) cmd[0] = 0;
+        c->batch_len = last.at + last.length;
+    } else if (length > 1) {
+        cmd[0] = table[row].header | (length - 2) | (row == STORE_IMM && length == 5 ? 0x200000 : 0);
+        c->batch_len = last.at + 1 + below(one_in(2) ? 1 : length - 1);
+        if (one_in(2)) c->batch_len = last.at + length - 1;
+        for (uint32_t i = last.at + 1; i < c->batch_len; i++) c->batch[i] = 0;
+        if (one_in(4)) cmd[0] ^= 1u << below(32);
+    }
+}
+
+/* ---- Blind changes ---- */
+
+static void flip(void)
+{
+    struct capture *c = m.c;
+    uint32_t which = below(3), at = below((uint32_t)c->batch_len), bit = 1u << below(32);
+    switch (below(12)) {
+    case 0: c->batch[at] = word(); break;
+    case 1: c->batch[at] = c->batch[below((uint32_t)c->batch_len)]; break;
+    case 2: if (c->state_len) c->state[below((uint32_t)c->state_len)] ^= bit; break;
+    case 3: if (c->batch_len > 1) c->batch_len--; break;
+    case 4: c->state_len -= c->state_len > 0; break;
+    case 5: c->scratch_len = one_in(2) ? c->scratch_len ^ bit : c->scratch_len - 1; break;
+    case 6: address(which, window(which).at ^ (uint64_t)1 << below(64)); break;
+    case 7: address(which, window(which).at + PAGE); break;
+    default: c->batch[at] ^= bit;
+    }
+}
+
+/* ---- The capture as a whole ---- */
+
+/* What is aimed at, and how often in 128 captures. */
+static const struct {
+    int aim;
+    uint32_t often;
+} aims[] = {{ACCEPTED, 20}, {1, 4}, {2, 4}, {3, 5}, {4, 5}, {6, 5}, {7, 4}, {8, 6}, {9, 6}, {10, 9}, {11, 5}, {12, 12}, {13, 9},
+            {14, 3}, {15, 5}, {16, 4}, {17, 5}, {18, 4}, {ENDLESS_RUN, 1}, {EXACT_RUN, 1}, {FLIPPED, 10}, {NOISE, 1}};
+
+static int aim_of(uint64_t number)
+{
+    uint32_t slot = (uint32_t)(number % 128), i = 0;
+    while (slot >= aims[i].often) slot -= aims[i++].often;
+    return aims[i].aim;
+}
+
+static void begin(struct capture *c, uint64_t seed, uint64_t number)
+{
+    m.c = c;
+    dice_start(&m.dice, seed, number);
+    m.aim = aim_of(number);
+    m.fixed_base = m.aim != 14 && (m.aim > 14 || !one_in(3));
+    m.whole = one_in(2);
+    m.has_base = 0;
+    m.at = m.limit = m.data = m.hidden = m.patched = m.made = 0;
+    for (int i = 0; i < BLOCKS; i++) m.starts[i] = 0;
+    c->batch_len = batch_length();
+    c->state_len = state_length();
+    c->scratch_len = scratch_length();
+    place_windows();
+    fill_structures(c->state, 0, (uint32_t)c->state_len);
+}
+
+static void make_aimed(void)
+{
+    if (m.aim == ENDLESS_RUN || m.aim == EXACT_RUN) {
+        m.c->batch_len = LIMIT;
+        place_windows();
+        if (m.aim == ENDLESS_RUN) make_endless();
+        else make_exact();
+        return;
+    }
+    if (m.aim == NOISE) {
+        make_noise();
+        return;
+    }
+    make_run();
+    if (m.aim >= 1 && m.aim <= 4) {
+        spoil_windows(m.aim);
+        if (one_in(4)) spoil_windows(1 + (int)below(4));
+    } else if (m.aim == 6 || m.aim == 9) {
+        cut_short(m.aim);
+    } else if (m.aim == FLIPPED) {
+        for (uint32_t n = 1 + below(3); n > 0; n--) flip();
+    } else {
+        plant(m.aim);
+    }
+}
+
+/* Room for the records: as a rule near what the run needs, which the checker itself is asked for. */
+static size_t room(void)
+{
+    static uint32_t records[RECORDS_MOST];
+    const struct capture *c = m.c;
+    struct lungevati_answer a = other_check(c->batch, c->batch_len, c->batch_at, c->state, c->state_len, c->state_at,
+                                            c->scratch_at, c->scratch_len, records, RECORDS_MOST);
+    if (m.aim == 18) return below(one_in(2) ? a.count : 3);
+    if (m.aim == EXACT_RUN && one_in(3)) return a.count - below(3);
+    if (a.count == BUDGET) return one_in(2) ? BUDGET + below(2) : RECORDS_MOST - below(2);
+    return one_in(3) ? a.count : one_in(2) ? a.count + 1 : a.count + below(40);
+}
+
+void generate(struct capture *c, uint64_t seed, uint64_t number)
+{
+    begin(c, seed, number);
+    make_aimed();
+    c->records_len = room();
+}
+
+/* ---- Files ---- */
+
+struct trailer {
+    uint64_t batch_at, state_at, scratch_at;
+    uint32_t scratch_len, batch_count, state_count, distance;
+};
+
+static void put_bytes(uint8_t *to, uint64_t value, uint32_t count)
+{
+    for (uint32_t i = 0; i < count; i++) to[i] = (uint8_t)(value >> 8 * i);
+}
+
+/* The words of the capture, or others where it has none, and room for the trailer. */
+static void put_words(struct capture_file *f, const struct capture *c, uint32_t batch_count, uint32_t state_count)
+{
+    uint8_t *to = f->bytes;
+    for (uint32_t i = 0; i < batch_count; i++, to += 4) put_bytes(to, i < c->batch_len ? c->batch[i] : word(), 4);
+    for (uint32_t i = 0; i < state_count; i++, to += 4) put_bytes(to, i < c->state_len ? c->state[i] : word(), 4);
+    f->len = 4 * ((size_t)batch_count + state_count) + 40;
+}
+
+static void put_trailer(struct capture_file *f, const struct trailer *t)
+{
+    uint8_t *to = f->bytes + f->len - 40;
+    put_bytes(to, t->batch_at, 8);
+    put_bytes(to + 8, t->state_at, 8);
+    put_bytes(to + 16, t->scratch_at, 8);
+    put_bytes(to + 24, t->scratch_len, 4);
+    put_bytes(to + 28, t->batch_count, 4);
+    put_bytes(to + 32, t->state_count, 4);
+    put_bytes(to + 36, t->distance, 4);
+}
+
+/* Counts against rule 1, in a file whose size agrees with them. */
+static void bad_counts(uint32_t *batch, uint32_t *state)
+{
+    switch (below(3)) {
+    case 0: *batch = 0, *state = below(300); break;
+    case 1: *batch = LIMIT + 1 + below(one_in(2) ? 1 : 1000), *state = below(300); break;
+    default: *batch = below(300), *state = LIMIT + 1 + below(one_in(2) ? 1 : 1000);
+    }
+}
+
+/* A trailer that lies: about the distance, about the counts, or so that a sum of 32 bits would come out right. */
+static void lie(struct trailer *t)
+{
+    switch (below(8)) {
+    case 0: t->distance += one_in(2) ? 1 : 4; break;
+    case 1: t->distance -= one_in(2) ? 1 : 4; break;
+    case 2: t->distance = one_in(2) ? 40 : word(); break;
+    case 3: t->batch_count++; break;
+    case 4: t->state_count -= one_in(2) ? 1 : 4; break;
+    case 5: t->batch_count += 0x40000000; break;
+    case 6: t->batch_count += 0x80000000, t->state_count += 0x80000000; break;
+    default: t->batch_count += t->state_count + 1, t->state_count = 0xFFFFFFFF;
+    }
+}
+
+/* The file gets longer or shorter, with its trailer at its end or somewhere else. */
+static void resize(struct capture_file *f, const struct trailer *t)
+{
+    static const uint32_t steps[] = {1, 2, 3, 4, 8, 40};
+    uint32_t step = PICK(steps);
+    f->len = one_in(2) ? f->len + step : f->len - step;
+    if (one_in(2) && f->len >= 40) put_trailer(f, t);
+}
+
+static size_t file_room(uint32_t count, int short_of)
+{
+    if (short_of) return count ? (one_in(2) ? count - 1 : below(count)) : 0;
+    size_t most = one_in(3) ? count : one_in(2) ? count + 1 : count + below(20);
+    return most < LENT_MOST ? most : LENT_MOST;
+}
+
+void generate_file(struct capture_file *f, const struct capture *c, uint64_t seed, uint64_t number)
+{
+    dice_start(&m.dice, ~seed, number);
+    uint32_t kind = (uint32_t)(number / 3 % 16), short_of = kind == 8 || kind == 9 ? 1 + below(3) : 0;
+    uint32_t batch = (uint32_t)c->batch_len, state = (uint32_t)c->state_len;
+    if (batch > LIMIT || one_in(64)) batch = LIMIT;
+    if (state > LIMIT || one_in(64)) state = LIMIT;
+    if (kind == 6 || kind == 7) bad_counts(&batch, &state);
+
+    struct trailer t = {c->batch_at, c->state_at, c->scratch_at, c->scratch_len, batch, state, 40 + 4 * (batch + state)};
+    put_words(f, c, batch, state);
+    if (kind == 4 || (kind == 6 && one_in(4))) lie(&t);
+    put_trailer(f, &t);
+    if (kind == 5) resize(f, &t);
+    if (kind == 3) f->len = one_in(4) ? 39 : one_in(3) ? 0 : one_in(2) ? below(40) : FILE_MOST - (one_in(2) ? 199 : below(200));
+    if (kind == 2) f->bytes[f->len - 1 - below(f->len < 60 ? (uint32_t)f->len : 60)] ^= (uint8_t)(1u << below(8));
+    f->batch_room = file_room(batch, short_of & 1);
+    f->state_room = file_room(state, short_of >> 1);
+}

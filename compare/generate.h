@@ -1,0 +1,36 @@
+/* Captures and capture files made from a seed: well-formed runs, then faults planted in them. */
+#ifndef GENERATE_H
+#define GENERATE_H
+
+#include "../include/lungevati.h"
+
+enum {
+    LENT_MOST = 4096 + 1024,           /* dwords of a window: past the limit too */
+    RECORDS_MOST = 70000,              /* past the budget of 65,536 commands too */
+    FILE_MOST = 40 + 4 * 2 * 4096 + 200 /* bytes: past the limit too */
+};
+
+struct capture {
+    uint64_t batch_at, state_at, scratch_at;
+    size_t batch_len, state_len, records_len;
+    uint32_t scratch_len;
+    uint32_t batch[LENT_MOST], state[LENT_MOST];
+};
+
+struct capture_file {
+    size_t len, batch_room, state_room;
+    uint8_t bytes[FILE_MOST];
+};
+
+/* A small generator of numbers, from a seed of any kind. */
+struct dice {
+    uint64_t state;
+};
+void dice_start(struct dice *d, uint64_t seed, uint64_t number);
+uint64_t dice_roll(struct dice *d);
+
+/* The capture, and the file, of one number: the same for the same seed and number, whatever was made before. */
+void generate(struct capture *c, uint64_t seed, uint64_t number);
+void generate_file(struct capture_file *f, const struct capture *c, uint64_t seed, uint64_t number);
+
+#endif

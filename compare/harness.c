@@ -1,0 +1,322 @@
+/*
+ * The proved checker against the second opinion.
+ *   harness N SEED          document 01's cases and the sweeps, then N captures and files made from SEED
+ *   harness N SEED CASE     only that one of the N, and shows it
+ * Exit status 1 at the first difference, or where a number was met too rarely for the comparison to say much of it.
+ */
+#include "harness.h"
+#include "checker.h"
+#include "streamer.h"
+
+enum { GUARD = 16, NUMBERS = 22, ROWS = 17, SECONDS = 60 };
+
+static uint32_t lent_batch[GUARD + LENT_MOST + GUARD], lent_state[GUARD + LENT_MOST + GUARD];
+static uint8_t lent_file[GUARD + FILE_MOST + GUARD];
+
+/* What is lent to be written: once to each side, and as it was before. */
+struct room {
+    uint32_t proved[GUARD + RECORDS_MOST + GUARD], other[GUARD + RECORDS_MOST + GUARD], before[GUARD + RECORDS_MOST + GUARD];
+};
+static struct room records, batch_room, state_room;
+
+struct lungevati_answer last_answer;
+const uint32_t *const last_records = records.other + GUARD;
+
+static const char *const words_for[NUMBERS] = {
+    "accepted", "counts", "address not on a page", "window too high", "windows share a byte", "65,536 commands, no end",
+    "ran out of the batch", "header not in the table", "length field", "goes past the batch", "bit not allowed",
+    "start in a second-level batch", "value rule", "address range", "no dynamic base", "structure nowhere",
+    "structure bit", "structure value", "record buffer full", "file size", "file's distance", "lent buffer too short"};
+
+/* ---- Lent memory ---- */
+
+static void lend_words(uint32_t *lent, const uint32_t *words, size_t len, struct dice *d)
+{
+    for (size_t i = 0; i < GUARD; i++) lent[i] = lent[GUARD + len + i] = (uint32_t)dice_roll(d);
+    for (size_t i = 0; i < len; i++) lent[GUARD + i] = words[i];
+}
+
+static int unchanged(const uint32_t *lent, const uint32_t *words, size_t len)
+{
+    uint32_t differ = 0;
+    for (size_t i = 0; i < len; i++) differ |= lent[GUARD + i] ^ words[i];
+    return differ == 0;
+}
+
+static void lend_room(struct room *r, size_t len, struct dice *d)
+{
+    for (size_t i = 0; i < GUARD + len + GUARD; i++)
+        r->proved[i] = r->other[i] = r->before[i] = (uint32_t)(dice_roll(d) >> 32);
+}
+
+/* Both sides left the same words, and all but the first `written` are those that were lent. */
+static int same_room(const struct room *r, const char *name, size_t len, size_t written)
+{
+    for (size_t i = 0; i < GUARD + len + GUARD; i++) {
+        uint32_t was = i >= GUARD && i < GUARD + written ? r->other[i] : r->before[i];
+        if (r->proved[i] == r->other[i] && r->other[i] == was) continue;
+        printf("DIFFERENT: word %ld of %s (%lu lent, %lu to be written): proved %08x, other %08x, before %08x\n",
+               (long)i - GUARD, name, (unsigned long)len, (unsigned long)written, r->proved[i], r->other[i], r->before[i]);
+        return 0;
+    }
+    return 1;
+}
+
+/* ---- Where a run stopped, for the table ---- */
+
+/* The dword after the records' last command, as the walk goes on. */
+static uint32_t position_after(const struct capture *c, const uint32_t *recs, uint32_t count)
+{
+    uint32_t at = 0, kept = 0;
+    for (uint32_t i = 0; i < count; i++) {
+        uint32_t index = recs[i] & 0xFFF, row = recs[i] >> 24, length = recs[i] >> 16 & 0xFF;
+        const uint32_t *cmd = c->batch + index;
+        at = index + length;
+        if (row == 2 && (cmd[0] & 0x400000)) kept = at;
+        if (row == 2) at = (uint32_t)((cmd[1] | (uint64_t)cmd[2] << 32) - c->batch_at) / 4;
+        if (row == 1) at = kept;
+    }
+    return at;
+}
+
+static void count_check(const struct capture *c, struct lungevati_answer a, const uint32_t *recs, struct tally *t)
+{
+    uint32_t row = ROWS;
+    t->checked[a.reason]++;
+    if (a.reason >= 8) row = stream_row(c->batch[position_after(c, recs, a.count)]);
+    t->by_row[row][a.reason]++;
+    for (uint32_t i = 0; i < a.count; i++) {
+        uint32_t length = recs[i] >> 16 & 0xFF;
+        row = recs[i] >> 24;
+        if (t->commands[row]++ == 0) t->shortest[row] = t->longest[row] = length;
+        if (length < t->shortest[row]) t->shortest[row] = length;
+        if (length > t->longest[row]) t->longest[row] = length;
+    }
+}
+
+/* ---- Demand 3 ---- */
+
+static int stream_fault(const char *what, uint32_t step)
+{
+    printf("DEMAND 3: %s, at command %u of an accepted capture\n", what, step);
+    return 0;
+}
+
+/* The streamer runs as the records say, ends with the last of them, and stores nothing outside scratch at any moment. */
+static int streams(const struct capture *c, const uint32_t *recs, uint32_t count, uint64_t seed, struct tally *t)
+{
+    static struct stream s;
+    stream_start(&s, c->batch, c->batch_len, c->batch_at, c->state, c->state_len, c->state_at, c->scratch_at,
+                 c->scratch_len, seed);
+    for (uint32_t i = 0; i < count; i++) {
+        stream_step(&s);
+        if (s.is == STREAM_FAILED) return stream_fault("the streamer failed", i);
+        if (s.is == STREAM_FULL) return stream_fault("the streamer's own memory is full", i);
+        if (recs[i] != (s.row << 24 | s.length << 16 | s.at_level << 12 | s.index))
+            return stream_fault("the streamer did another command than the record's", i);
+        if (s.stores[STREAM_BATCH] || s.stores[STREAM_STATE]) return stream_fault("a store outside scratch", i);
+        if ((s.is == STREAM_ENDED) != (i + 1 == count)) return stream_fault("the end at another command", i);
+    }
+    for (size_t i = 0; i < c->batch_len; i++)
+        if (s.batch[i] != c->batch[i]) return stream_fault("the batch changed", count);
+    for (size_t i = 0; i < c->state_len; i++)
+        if (s.state[i] != c->state[i]) return stream_fault("the state window changed", count);
+    t->streamed++;
+    t->steps += count;
+    t->stores += s.stores[STREAM_SCRATCH];
+    return 1;
+}
+
+/* ---- One input, both sides ---- */
+
+typedef struct lungevati_answer check_call(const uint32_t *, size_t, uint64_t, const uint32_t *, size_t, uint64_t,
+                                           uint64_t, uint32_t, uint32_t *, size_t);
+
+static struct lungevati_answer ask(check_call *check, const struct capture *c, uint32_t *recs)
+{
+    return check(lent_batch + GUARD, c->batch_len, c->batch_at, lent_state + GUARD, c->state_len, c->state_at,
+                 c->scratch_at, c->scratch_len, recs + GUARD, c->records_len);
+}
+
+static int same_answer(struct lungevati_answer p, struct lungevati_answer o)
+{
+    if (p.reason == o.reason && p.window == o.window && p.index == o.index && p.count == o.count) return 1;
+    printf("DIFFERENT: check: proved reason %u window %u index %u count %u, other reason %u window %u index %u count %u\n",
+           p.reason, p.window, p.index, p.count, o.reason, o.window, o.index, o.count);
+    return 0;
+}
+
+int same_check(const struct capture *c, uint64_t seed, struct tally *t)
+{
+    struct dice d;
+    dice_start(&d, seed, 1);
+    lend_words(lent_batch, c->batch, c->batch_len, &d);
+    lend_words(lent_state, c->state, c->state_len, &d);
+    lend_room(&records, c->records_len, &d);
+
+    struct lungevati_answer p = ask(lungevati_check, c, records.proved), o = ask(other_check, c, records.other);
+    last_answer = o;
+    if (!same_answer(p, o) || !same_room(&records, "records", c->records_len, o.count)) return 0;
+    if (!unchanged(lent_batch, c->batch, c->batch_len) || !unchanged(lent_state, c->state, c->state_len)) {
+        printf("DIFFERENT: a lent window was written\n");
+        return 0;
+    }
+    count_check(c, o, last_records, t);
+    return o.reason != 0 || streams(c, last_records, o.count, dice_roll(&d), t);
+}
+
+static int same_contents(struct lungevati_contents p, struct lungevati_contents o)
+{
+    if (p.reason == o.reason && p.window == o.window && p.index == o.index && p.count == o.count &&
+        p.batch_count == o.batch_count && p.state_count == o.state_count && p.scratch_len == o.scratch_len &&
+        p.batch_at == o.batch_at && p.state_at == o.state_at && p.scratch_at == o.scratch_at)
+        return 1;
+    printf("DIFFERENT: read: proved reason %u %u %u %u, batch %u at %lx, state %u at %lx, scratch %u at %lx\n",
+           p.reason, p.window, p.index, p.count, p.batch_count, (unsigned long)p.batch_at, p.state_count,
+           (unsigned long)p.state_at, p.scratch_len, (unsigned long)p.scratch_at);
+    printf("            other reason %u %u %u %u, batch %u at %lx, state %u at %lx, scratch %u at %lx\n",
+           o.reason, o.window, o.index, o.count, o.batch_count, (unsigned long)o.batch_at, o.state_count,
+           (unsigned long)o.state_at, o.scratch_len, (unsigned long)o.scratch_at);
+    return 0;
+}
+
+int same_read(const struct capture_file *f, uint64_t seed, struct tally *t)
+{
+    struct dice d;
+    uint8_t *file = lent_file + seed % 8; /* bytes stand at any address */
+    dice_start(&d, seed, 2);
+    for (size_t i = 0; i < f->len; i++) file[i] = f->bytes[i];
+    lend_room(&batch_room, f->batch_room, &d);
+    lend_room(&state_room, f->state_room, &d);
+
+    struct lungevati_contents p = lungevati_read(file, f->len, batch_room.proved + GUARD, f->batch_room,
+                                                 state_room.proved + GUARD, f->state_room);
+    struct lungevati_contents o = other_read(file, f->len, batch_room.other + GUARD, f->batch_room,
+                                             state_room.other + GUARD, f->state_room);
+    t->read[o.reason]++;
+    for (size_t i = 0; i < f->len; i++)
+        if (file[i] != f->bytes[i]) {
+            printf("DIFFERENT: the file was written\n");
+            return 0;
+        }
+    return same_contents(p, o) && same_room(&batch_room, "the batch buffer", f->batch_room, o.batch_count) &&
+           same_room(&state_room, "the state buffer", f->state_room, o.state_count);
+}
+
+/* ---- Many ---- */
+
+static int same_case(uint64_t seed, uint64_t number, struct capture *c, struct tally *t)
+{
+    static struct capture_file f;
+    generate(c, seed, number);
+    generate_file(&f, c, seed, number);
+    return same_check(c, seed + number, t) && same_read(&f, seed + number, t);
+}
+
+static void show(const struct capture *c)
+{
+    printf("batch %lu at %lx, state %lu at %lx, scratch %u bytes at %lx, room for %lu records\n", (unsigned long)c->batch_len,
+           (unsigned long)c->batch_at, (unsigned long)c->state_len, (unsigned long)c->state_at, c->scratch_len,
+           (unsigned long)c->scratch_at, (unsigned long)c->records_len);
+    for (size_t i = 0; i < c->batch_len; i++) printf("%s%08x", i % 8 ? " " : i ? "\n" : "batch:\n", c->batch[i]);
+    for (size_t i = 0; i < c->state_len; i++) printf("%s%08x", i % 8 ? " " : i ? "\n" : "\nstate:\n", c->state[i]);
+    printf("\nC: reason %u window %u index %u count %u\n", last_answer.reason, last_answer.window, last_answer.index,
+           last_answer.count);
+}
+
+static void print_numbers(const struct tally *t)
+{
+    printf("\n  no.     check      read\n");
+    for (uint32_t i = 0; i < NUMBERS; i++)
+        printf("%5u %9lu %9lu  %s\n", i, (unsigned long)t->checked[i], (unsigned long)t->read[i], words_for[i]);
+}
+
+static void print_rows(const struct tally *t)
+{
+    printf("\n  row accepted lengths   refused as   7     8     9    10    11    12    13    14    15    16    17    18\n");
+    for (uint32_t row = 0; row <= ROWS; row++) {
+        if (row < ROWS)
+            printf("%5u %8lu %3lu..%-3lu            ", row, (unsigned long)t->commands[row], (unsigned long)t->shortest[row],
+                   (unsigned long)t->longest[row]);
+        else
+            printf(" none                           ");
+        for (uint32_t number = 7; number <= 18; number++) printf(" %5lu", (unsigned long)t->by_row[row][number]);
+        printf("\n");
+    }
+}
+
+/* Each number that a call can answer was answered often enough. */
+static int often_enough(const struct tally *t, uint64_t least)
+{
+    int enough = 1;
+    for (uint32_t i = 0; i < NUMBERS; i++) {
+        int by_check = i <= 18, by_read = i <= 1 || i >= 19;
+        if ((by_check && t->checked[i] < least) || (by_read && t->read[i] < least)) {
+            printf("TOO FEW: number %u was met %lu times by check and %lu by read, and %lu are asked for\n", i,
+                   (unsigned long)t->checked[i], (unsigned long)t->read[i], (unsigned long)least);
+            enough = 0;
+        }
+    }
+    return enough;
+}
+
+static uint64_t at_seed, at_case, of_cases;
+
+static void say_case(void)
+{
+    printf("seed %lu, case %lu; to see it: compare/run %lu %lu %lu\n", (unsigned long)at_seed, (unsigned long)at_case,
+           (unsigned long)of_cases, (unsigned long)at_seed, (unsigned long)at_case);
+}
+
+/* A call that does not return, or not in time, breaks its promise too. */
+static void stopped(int number)
+{
+    printf("STOPPED by signal %d\n", number);
+    say_case();
+    exit(1);
+}
+
+static void watch(void)
+{
+    static const int signals[] = {4, 6, 7, 8, 11, 14}; /* SIGILL, SIGABRT, SIGBUS, SIGFPE, SIGSEGV, SIGALRM */
+    for (int i = 0; i < 6; i++) signal(signals[i], stopped);
+}
+
+static int many(uint64_t count, uint64_t seed)
+{
+    static struct capture c;
+    static struct tally swept, t;
+    at_seed = seed, of_cases = count;
+    watch();
+    alarm(SECONDS);
+    if (!sweep(&swept)) return 1;
+    for (at_case = 0; at_case < count; at_case++) {
+        alarm(SECONDS);
+        if (same_case(seed, at_case, &c, &t)) continue;
+        say_case();
+        return 1;
+    }
+    print_numbers(&t);
+    print_rows(&t);
+    printf("\n%lu captures from seed %lu: proved and C agree. ", (unsigned long)count, (unsigned long)seed);
+    printf("%lu accepted runs streamed, %lu commands, %lu words stored.\n", (unsigned long)t.streamed, (unsigned long)t.steps,
+           (unsigned long)t.stores);
+    return !often_enough(&t, count / 200);
+}
+
+static int one(uint64_t seed, uint64_t number)
+{
+    static struct capture c;
+    static struct tally t;
+    int same = same_case(seed, number, &c, &t);
+    show(&c);
+    return !same;
+}
+
+int main(int n, char **v)
+{
+    if (n == 3) return many(strtoul(v[1], 0, 10), strtoul(v[2], 0, 10));
+    if (n == 4) return one(strtoul(v[2], 0, 10), strtoul(v[3], 0, 10));
+    printf("usage: harness N SEED [CASE]\n");
+    return 2;
+}

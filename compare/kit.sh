@@ -1,0 +1,47 @@
+# To be sourced, with $top set to the repository: finds the kit that `rt` belongs to, and compiles, links and runs C for
+# x86-64 with nothing else. The same on x86-64 and on Arm, where the kit has an emulator.
+kit_find() {
+    kit_rt=$(command -v rt) || { echo "$0: no rt in PATH" >&2; exit 2; }
+    kit_home=${RATTLE_HOME:-$(cd "$(dirname "$(readlink -f "$kit_rt")")/.." && pwd -P)}
+    kit_own=$kit_home/on/$(uname -m)
+    kit_tools=$kit_own/toolchain
+    kit_emulator=
+    [ ! -x "$kit_tools/bin/qemu-x86_64" ] || kit_emulator=$kit_tools/bin/qemu-x86_64
+    # settings of an emulator elsewhere must not change what ours does
+    for v in $(env | sed -n 's/^\(QEMU_[A-Za-z0-9_]*\)=.*/\1/p'); do unset "$v"; done
+}
+
+# kit_compile OBJECT SOURCE [FLAG...]: no header of the machine is seen, so that it compiles alike everywhere
+kit_compile() {
+    kit_object=$1 kit_source=$2
+    shift 2
+    "$kit_tools/bin/clang" --target=x86_64-unknown-linux-gnu -nostdinc -std=c99 -O3 -fPIE -Wall -Wextra -Werror "$@" \
+        -c "$kit_source" -o "$kit_object"
+}
+
+# kit_link PROGRAM OBJECT...: the linker talks even when all is well
+kit_link() {
+    kit_program=$1
+    shift
+    "$kit_own/bin/rattle-link" --target x86_64-unknown-linux-gnu --toolchain "$kit_tools" -o "$kit_program" "$@" \
+        >"$kit_program.log" 2>&1 || { cat "$kit_program.log" >&2; exit 2; }
+}
+
+# kit_run PROGRAM [WORD...]
+kit_run() {
+    # shellcheck disable=SC2086 # no emulator is no word
+    $kit_emulator "$kit_tools/lib/ld-linux-x86-64.so.2" --library-path "$kit_tools/lib" "$@"
+}
+
+# kit_archive: proves and builds the library with the calls of include/lungevati.h, and sets $archive
+kit_archive() {
+    archive=$top/target/staticlib/libapi.a
+    (cd "$top" && rt staticlib api) >"$out/staticlib.log" 2>&1 || { cat "$out/staticlib.log" >&2; exit 2; }
+}
+
+# kit_self OBJECT [FLAG...]: the second opinion itself under the names of the proved calls
+kit_self() {
+    kit_object=$1
+    shift
+    kit_compile "$kit_object" "$top/compare/checker.c" -Dother_check=lungevati_check -Dother_read=lungevati_read "$@"
+}

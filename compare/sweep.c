@@ -1,0 +1,345 @@
+/*
+ * What need not be left to chance: the cases of document 01 with the answers that it gives for them, and then small captures
+ * in which every bit, length field, code and edge is tried one by one. Of these the answers are only compared.
+ */
+#include "harness.h"
+
+static struct capture c;
+static struct tally *tally;
+static uint64_t tried;
+
+static int try_it(void) { return same_check(&c, ++tried, tally); }
+
+/* The windows of document 01's cases. */
+static void usual_windows(void)
+{
+    c.batch_at = 0x100000, c.state_at = 0x200000, c.scratch_at = 0x300000;
+    c.scratch_len = 4096;
+    c.state_len = 0;
+    c.records_len = 16;
+}
+
+static void set_batch(const uint32_t *words, size_t len)
+{
+    for (size_t i = 0; i < len; i++) c.batch[i] = words[i];
+    c.batch_len = len;
+}
+
+/* ---- The cases C1 to C12 ---- */
+
+struct expected {
+    uint32_t len, words[8], room, reason, index, count, records[3];
+};
+
+static const struct expected cases[] = {
+    {0, {0}, 16, 1, 0, 0, {0}},
+    {1, {0x05000000}, 16, 0, 0, 1, {0x01010000}},
+    {1, {0x00000000}, 16, 6, 1, 1, {0x00010000}},
+    {1, {0x05000001}, 16, 10, 0, 0, {0}},
+    {1, {0x40000000}, 16, 7, 0, 0, {0}},
+    {3, {0x18800101, 0x00100000, 0}, 4, 18, 0, 4, {0x02030000, 0x02030000, 0x02030000}},
+    {5, {0x18C00101, 0x00100010, 0, 0x05000000, 0x05000000}, 16, 0, 0, 3, {0x02030000, 0x01011004, 0x01010003}},
+    {5, {0x10000002, 0x00300FFC, 0, 0, 0x05000000}, 16, 0, 0, 2, {0x04040000, 0x01010004}},
+    {6, {0, 0x10000002, 0x00301000, 0, 0, 0x05000000}, 16, 13, 2, 1, {0x00010000}},
+    {5, {0x10200003, 0x00300FFC, 0, 0, 0}, 16, 12, 1, 0, {0}},
+    {2, {0x78230000, 0}, 16, 14, 1, 0, {0}},
+    {7, {0x7B000405, 0x200, 0, 0, 0, 0, 0}, 16, 12, 1, 0, {0}},
+};
+
+static int sweep_cases(void)
+{
+    for (uint32_t i = 0; i < sizeof cases / sizeof cases[0]; i++) {
+        const struct expected *e = &cases[i];
+        usual_windows();
+        set_batch(e->words, e->len);
+        c.records_len = e->room;
+        int right = try_it() && last_answer.reason == e->reason && last_answer.window == 0 &&
+                    last_answer.index == e->index && last_answer.count == e->count;
+        for (uint32_t k = 0; k < e->count && k < 3; k++) right = right && last_records[k] == e->records[k];
+        if (!right) return printf("case C%u of document 01 has another answer\n", i + 1), 0;
+    }
+    return 1;
+}
+
+/* ---- One good command of each row, and whatever can be changed in it ---- */
+
+static const uint32_t samples[][17] = { /* length, then the dwords */
+    {1, 0x00000000},
+    {1, 0x05000000},
+    {3, 0x18800101, 0x00100000, 0},
+    {5, 0x11000003, 0x2400, 0, 0x267C, 0},
+    {4, 0x10000002, 0x00300FFC, 0, 0},
+    {5, 0x10200003, 0x00300FF8, 0, 0, 0},
+    {4, 0x12000002, 0x2408, 0x00300000, 0},
+    {4, 0x14800002, 0x2430, 0x00200000, 0},
+    {6, 0x7A000004, 0x00000000, 0, 0, 0, 0},
+    {6, 0x7A000004, 0x00004000, 0x00300FF8, 0, 0, 0},
+    {1, 0x69040000},
+    {16, 0x6101000E, 0, 0, 0, 0, 0, 0x00200001, 0, 0, 0, 0, 0, 0, 0, 0, 0},
+    {9, 0x78080007, 0x80004800, 0x00300000, 0, 4096, 0, 0, 0, 0},
+    {5, 0x78090003, 0x80000000, 0x44440000, 0, 0x10000000},
+    {5, 0x780A0003, 0x200, 0x00100000, 0, 4},
+    {2, 0x784B0000, 1},
+    {2, 0x78230000, 0},
+    {2, 0x780E0000, 1},
+    {7, 0x7B000005, 0x000, 0, 0, 0, 0, 0},
+    {7, 0x7B000005, 0x200, 0, 0, 0, 0, 0},
+};
+enum { SAMPLES = sizeof samples / sizeof samples[0], BASE_DWORDS = 16 };
+
+/*
+ * A batch that sets the dynamic base to the state window and then has the sample; zeros behind it, up to `zeros` of them,
+ * and an end. The state window has zeros, which are a depth range and a colour state.
+ */
+static uint32_t *set_sample(uint32_t which, uint32_t zeros)
+{
+    usual_windows();
+    c.state_len = 16;
+    for (uint32_t i = 0; i < 16; i++) c.state[i] = 0;
+    for (uint32_t i = 0; i < BASE_DWORDS; i++) c.batch[i] = samples[11][1 + i];
+    uint32_t *cmd = c.batch + BASE_DWORDS, length = samples[which][0];
+    for (uint32_t i = 0; i < length + zeros; i++) cmd[i] = i < length ? samples[which][1 + i] : 0;
+    cmd[length + zeros] = 0x05000000;
+    c.batch_len = BASE_DWORDS + length + zeros + 1;
+    c.records_len = 4 + zeros;
+    return cmd;
+}
+
+/* Every bit turned, alone and together with every other: two faults at once show which goes first. */
+static int sweep_bits(uint32_t sample)
+{
+    uint32_t *cmd = set_sample(sample, 0), bits = 32 * samples[sample][0];
+    if (!try_it()) return 0;
+    for (uint32_t i = 0; i < bits; i++) {
+        cmd[i / 32] ^= 1u << i % 32;
+        for (uint32_t k = i; k < bits; k++) {
+            if (k > i) cmd[k / 32] ^= 1u << k % 32;
+            if (!try_it()) return 0;
+            if (k > i) cmd[k / 32] ^= 1u << k % 32;
+        }
+        cmd[i / 32] ^= 1u << i % 32;
+    }
+    return 1;
+}
+
+/* The batch ends anywhere inside the command, and every bit of its header turned. */
+static int sweep_cuts(uint32_t sample)
+{
+    uint32_t *cmd = set_sample(sample, 0);
+    for (uint32_t left = 0; left <= samples[sample][0]; left++)
+        for (uint32_t bit = 0; bit <= 32; bit++) {
+            c.batch_len = BASE_DWORDS + left;
+            cmd[0] = samples[sample][1] ^ (bit < 32 ? 1u << bit : 0);
+            if (!try_it()) return 0;
+        }
+    return 1;
+}
+
+static int sweep_samples(void)
+{
+    for (uint32_t i = 0; i < SAMPLES; i++)
+        if (!sweep_bits(i) || !sweep_cuts(i)) return 0;
+    return 1;
+}
+
+/* Every length field, with room for the longest command and with too little. */
+static int sweep_lengths(void)
+{
+    for (uint32_t s = 0; s < SAMPLES; s++)
+        for (uint32_t field = 0; field < 512; field++) {
+            uint32_t *cmd = set_sample(s, field < 256 ? 260 : field % 32);
+            *cmd = (*cmd & ~0xFFu) | (field & 0xFF);
+            if (!try_it()) return 0;
+        }
+    return 1;
+}
+
+/* Every value of some bits of one dword of a sample. */
+static int sweep_field(uint32_t sample, uint32_t dword, uint32_t shift, uint32_t values, uint32_t step)
+{
+    for (uint32_t value = 0; value < values; value += step) {
+        uint32_t *cmd = set_sample(sample, 0), keep = ~((values - 1) << shift);
+        cmd[dword] = (cmd[dword] & keep) | value << shift;
+        if (!try_it()) return 0;
+    }
+    return 1;
+}
+
+static int sweep_components(void)
+{
+    for (uint32_t i = 0; i < 8 * 8 * 8 * 8; i++) {
+        set_sample(13, 0)[4] = (i >> 9) << 28 | (i >> 6 & 7) << 24 | (i >> 3 & 7) << 20 | (i & 7) << 16;
+        if (!try_it()) return 0;
+    }
+    return 1;
+}
+
+static int sweep_codes(void)
+{
+    return sweep_field(13, 1, 16, 512, 1) && sweep_field(13, 3, 26, 64, 1) && sweep_field(12, 1, 26, 64, 1) &&
+           sweep_field(12, 5, 0, 4096, 1) && sweep_field(15, 1, 0, 64, 1) && sweep_field(3, 3, 0, 0x8000, 4) &&
+           sweep_field(6, 1, 0, 0x8000, 4) && sweep_field(7, 1, 0, 0x8000, 4) && sweep_components();
+}
+
+/* Header bits 10:8 and dword 1 bits 9:8 of a primitive, with one of its operands not zero. */
+static int sweep_primitive(void)
+{
+    for (uint32_t i = 0; i < 8 * 4 * 8; i++) {
+        uint32_t *cmd = set_sample(18, 0);
+        cmd[0] |= (i & 7) << 8;
+        cmd[1] = (i >> 3 & 3) << 8;
+        if (i >> 5 > 1) cmd[i >> 5] = 1;
+        if (i >> 5 < 7 && !try_it()) return 0;
+    }
+    return 1;
+}
+
+/* ---- Addresses: every few bytes about the edges of each window ---- */
+
+static int sweep_address(uint32_t sample, uint32_t dword)
+{
+    static const uint64_t edges[] = {0x100000, 0x200000, 0x300000, 0x301000, 0x200040, 0, (uint64_t)1 << 48, 0x100000000};
+    for (uint32_t i = 0; i < 8; i++)
+        for (uint64_t off = 0; off < 40; off += 4) {
+            uint32_t *cmd = set_sample(sample, 0);
+            uint64_t at = edges[i] + off - 20;
+            cmd[dword] = (uint32_t)at;
+            cmd[dword + 1] = (uint32_t)(at >> 32) & 0xFFFF;
+            if (!try_it()) return 0;
+            cmd[dword] += (uint32_t)(4 * c.batch_len); /* the same about the batch's end */
+            if (!try_it()) return 0;
+        }
+    return 1;
+}
+
+static int sweep_range(uint32_t sample, uint32_t dword, uint32_t size_dword)
+{
+    static const uint64_t edges[] = {0x100000, 0x200000, 0x300000, 0x301000, 0x200040, 0, (uint64_t)1 << 48, 0x100000000};
+    static const uint32_t sizes[] = {0, 1, 2, 3, 4, 63, 64, 65, 4095, 4096, 4097, 0xFFFFFFFF};
+    for (uint32_t i = 0; i < 8 * 12 * 5; i++) {
+        uint32_t *cmd = set_sample(sample, 0);
+        uint64_t at = edges[i % 8] + i / 96 - 2;
+        cmd[dword] = (uint32_t)at;
+        cmd[dword + 1] = (uint32_t)(at >> 32) & 0xFFFF;
+        cmd[size_dword] = sizes[i / 8 % 12];
+        if (!try_it()) return 0;
+    }
+    return 1;
+}
+
+static int sweep_addresses(void)
+{
+    return sweep_address(2, 1) && sweep_address(4, 1) && sweep_address(5, 1) && sweep_address(6, 2) &&
+           sweep_address(7, 2) && sweep_address(9, 2) && sweep_range(12, 2, 4) && sweep_range(14, 2, 4);
+}
+
+/* ---- Structures ---- */
+
+static const uint32_t floats[] = {0,          0x80000000, 1,          0x80000001, 0x007FFFFF, 0x807FFFFF, 0x00800000,
+                                  0x80800000, 0x3F800000, 0xBF800000, 0x3F800001, 0xBF800001, 0x7F7FFFFF, 0xFF7FFFFF,
+                                  0x7F800000, 0xFF800000, 0x7F800001, 0xFF800001, 0x7FC00000, 0xFFC00000, 0x7FFFFFFF,
+                                  0xFFFFFFFF};
+enum { FLOATS = sizeof floats / sizeof floats[0] };
+
+static int sweep_structures(void)
+{
+    for (uint32_t i = 0; i < FLOATS * FLOATS; i++) {
+        set_sample(16, 0);
+        c.state[0] = floats[i / FLOATS], c.state[1] = floats[i % FLOATS];
+        if (!try_it()) return 0;
+    }
+    for (uint32_t i = 0; i < 6 * FLOATS; i++) {
+        set_sample(17, 0);
+        c.state[i / FLOATS] = floats[i % FLOATS];
+        if (!try_it()) return 0;
+    }
+    for (uint32_t bit = 0; bit < 32; bit++) {
+        set_sample(17, 0);
+        c.state[0] = 1u << bit;
+        if (!try_it()) return 0;
+    }
+    return 1;
+}
+
+/* Pointers about both lent windows, from bases near and far, with state windows of every length up to a structure's end. */
+static int sweep_pointers(uint32_t sample)
+{
+    static const uint64_t bases[] = {0x200000, 0x1FF000, 0x100000, 0, 0x201000, 0xFFFFFFFFF000, 0xFFFF00001000};
+    for (uint32_t i = 0; i < 7 * 18 * 8; i++) {
+        uint32_t *cmd = set_sample(sample, 0);
+        uint64_t base = bases[i % 7];
+        c.state_len = i / 7 % 18;
+        c.state[16] = c.state[17] = 0;
+        c.batch[6] = (uint32_t)base | 1, c.batch[7] = (uint32_t)(base >> 32);
+        cmd[1] = (uint32_t)(0x200000 - base + 32 * (i / 126) - 64) | (samples[sample][2] & 1);
+        if (!try_it()) return 0;
+    }
+    return 1;
+}
+
+/* ---- Windows ---- */
+
+static int sweep_windows(void)
+{
+    static const uint64_t places[] = {0, 0x1000, 0x2000, 0x2001, 0x3000, 0x0000FFFFFFFFF000, (uint64_t)1 << 48,
+                                      ((uint64_t)1 << 48) + 0x1000, (uint64_t)1 << 63, (uint64_t)0 - 0x1000};
+    static const uint32_t lens[][3] = {{1, 0, 0}, {1, 1, 1}, {1024, 1024, 4096}, {1025, 1025, 4097}, {1024, 0, 4096},
+                                       {1024, 1024, 0}, {1, 4096, 0xFFFFFFFF}, {4096, 4097, 1}, {4097, 0, 8192}};
+    for (uint32_t i = 0; i < 10 * 10 * 10 * 9; i++) {
+        const uint32_t *len = lens[i / 1000];
+        c.batch_at = places[i % 10], c.state_at = places[i / 10 % 10], c.scratch_at = places[i / 100 % 10];
+        c.batch_len = len[0], c.state_len = len[1], c.scratch_len = len[2];
+        c.records_len = 1;
+        c.batch[0] = 0x05000000;
+        if (!try_it()) return 0;
+    }
+    return 1;
+}
+
+/* ---- Files ---- */
+
+static void set_file(struct capture_file *f, uint32_t batch_count, uint32_t state_count, size_t len)
+{
+    const uint32_t words[4] = {0x1000, batch_count, state_count, (uint32_t)len};
+    for (size_t i = 0; i < len; i++) f->bytes[i] = (uint8_t)(37 * i + 11);
+    for (uint32_t i = 0; len >= 40 && i < 16; i++) f->bytes[len - 16 + i] = (uint8_t)(words[i / 4] >> 8 * (i % 4));
+    f->len = len;
+    f->batch_room = f->state_room = 8;
+}
+
+static int sweep_files(void)
+{
+    static struct capture_file f;
+    for (uint32_t len = 0; len < 100; len++)
+        for (uint32_t counts = 0; counts < 8 * 8; counts++) {
+            set_file(&f, counts / 8, counts % 8, len);
+            if (!same_read(&f, ++tried, tally)) return 0;
+        }
+    for (uint32_t bit = 0; bit < 8 * 52; bit++) {
+        set_file(&f, 2, 1, 52);
+        f.bytes[bit / 8] ^= (uint8_t)(1u << bit % 8);
+        if (!same_read(&f, ++tried, tally)) return 0;
+    }
+    for (uint32_t rooms = 0; rooms < 6 * 6; rooms++) {
+        set_file(&f, 3, 2, 60);
+        f.batch_room = rooms / 6, f.state_room = rooms % 6;
+        if (!same_read(&f, ++tried, tally)) return 0;
+    }
+    for (size_t len = FILE_MOST - 240; len <= FILE_MOST; len++) {
+        set_file(&f, 4096, 4096, len);
+        f.batch_room = f.state_room = 4096;
+        if (!same_read(&f, ++tried, tally)) return 0;
+    }
+    return 1;
+}
+
+int sweep(struct tally *t)
+{
+    tally = t;
+    int same = sweep_cases() && sweep_samples() && sweep_lengths() && sweep_codes() && sweep_primitive() &&
+               sweep_addresses() && sweep_structures() && sweep_pointers(16) && sweep_pointers(17) && sweep_windows() &&
+               sweep_files();
+    if (same) printf("document 01's cases have their answers; %lu small captures and files, tried one by one, agree\n", (unsigned long)tried);
+    else printf("in the sweeps, at %lu\n", (unsigned long)tried);
+    return same;
+}

@@ -1,0 +1,88 @@
+/*
+ * Lungevati from C: the proved checker of captured GPU command buffers (archive libapi.a, made by `rt staticlib api`).
+ *
+ * The numbers, places and rules are those of document 01. A reason is 0 (accepted, or read) or one of its refusal numbers.
+ * Each call returns whatever comes in, allocates nothing and keeps nothing between calls.
+ *
+ * The caller promises what no checker can test: each pointer is valid for the length given with it, and not null even
+ * where that is 0; memory that is lent to be written overlaps nothing else that is lent to the same call.
+ */
+#ifndef LUNGEVATI_H
+#define LUNGEVATI_H
+
+/* A compiler that comes without headers still knows the types; one without __has_include is taken to have headers. */
+#ifdef __has_include
+#if !__has_include(<stddef.h>) || !__has_include(<stdint.h>)
+#define LUNGEVATI_OWN_TYPES
+#endif
+#endif
+
+#ifdef LUNGEVATI_OWN_TYPES
+typedef __SIZE_TYPE__ size_t;
+typedef __UINT8_TYPE__ uint8_t;
+typedef __UINT32_TYPE__ uint32_t;
+typedef __UINT64_TYPE__ uint64_t;
+#else
+#include <stddef.h>
+#include <stdint.h>
+#endif
+
+#ifdef __cplusplus
+extern "C" {
+#endif
+
+/* What the walk over a capture found. */
+struct lungevati_answer {
+    uint32_t reason; /* 0 accepted, else 1 to 18 */
+    uint32_t window; /* where: 0 the batch window, 1 the state window */
+    uint32_t index;  /* the dword in that window; 0 in window 0 on acceptance and for 1 to 4 */
+    uint32_t count;  /* commands accepted, the end included: so many records are written */
+};
+
+/*
+ * Walks the capture and says whether it is allowed, and if not, which rule it breaks first and where.
+ *
+ *   batch, state    the two lent windows, only read, with their lengths in dwords and their addresses
+ *   scratch         is known by its address and its length in bytes alone
+ *   records         room for records_len records of one word each
+ *
+ * Of `records`, the words 0 to count - 1 hold the records of the accepted commands, in the order in which they ran; every
+ * word from `count` on is as it was. For the reasons 1 to 4 the count is 0. `count` is never more than `records_len`.
+ */
+struct lungevati_answer lungevati_check(const uint32_t *batch, size_t batch_len, uint64_t batch_at,
+                                        const uint32_t *state, size_t state_len, uint64_t state_at,
+                                        uint64_t scratch_at, uint32_t scratch_len,
+                                        uint32_t *records, size_t records_len);
+
+/* What a capture file holds. On a refusal all but the reason is 0. */
+struct lungevati_contents {
+    uint32_t reason;      /* 0 read, else 19, 20, 1 or 21, tried in this order */
+    uint32_t window;      /* 0: */
+    uint32_t index;       /* a file has no place */
+    uint32_t count;       /* and no command is read yet */
+    uint32_t batch_count; /* dwords filled in `batch` */
+    uint32_t state_count; /* dwords filled in `state` */
+    uint32_t scratch_len; /* bytes */
+    uint64_t batch_at;
+    uint64_t state_at;
+    uint64_t scratch_at;
+};
+
+/*
+ * Takes a capture file apart: its dwords into the two lent buffers, the numbers of its trailer into the answer.
+ *
+ *   file            the whole file, only read, with its length in bytes
+ *   batch, state    room for batch_len and state_len dwords
+ *
+ * On reason 0 each buffer is filled from word 0 with as many words as its count says, and the words after them are as they
+ * were. On a refusal both buffers are as they were. The addresses are not judged here: lungevati_check does that.
+ */
+struct lungevati_contents lungevati_read(const uint8_t *file, size_t file_len,
+                                         uint32_t *batch, size_t batch_len,
+                                         uint32_t *state, size_t state_len);
+
+#ifdef __cplusplus
+}
+#endif
+
+#endif
