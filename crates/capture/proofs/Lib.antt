@@ -1,4 +1,5 @@
 pub mod Filling
+pub mod Judging
 pub mod Opening
 pub mod Reading
 pub mod Unique

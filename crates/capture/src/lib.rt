@@ -1,15 +1,18 @@
 // The capture file: batch dwords, state dwords, then a trailer of 40 bytes.
+use rules::Answer;
 use rules::Contents;
 use rules::Filled;
 use rules::Opened;
 use rules::Reason;
 use rules::Window;
+use walk::answers::number;
 ghost use mathlib.Core.Path.{_≡_};
 ghost use Prim.Native.Nat.{_+_, _-_, _*_, _≤_, _<_};
 ghost use lib.ListN.{length};
 ghost use Rattle.rules.specs.File.{word, longWord, trailerBytes, trailerOf, contentsOf};
 ghost use Rattle.rules.specs.File.{distanceWrong, fileCountsWrong, bufferShort, openedOf};
-ghost use Rattle.rules.specs.File.{dwordsFrom, filled, FileRead};
+ghost use Rattle.rules.specs.File.{dwordsFrom, filled, FileRead, openedAnswer, Judged};
+ghost use Rattle.rules.specs.declared.Opened.the-variants.{NotRead};
 ghost use Rattle.capture.specs.Offers.{offer, alone};
 
 const TRAILER_BYTES: usize = 40;
@@ -170,6 +173,42 @@ pub fn read(file: &[u8], batch: &mut [u32], state: &mut [u32]) -> Opened
             fill(file, 0, first, batch);
             fill(file, 4 * first, second, state);
             Opened::Holds(contents)
+        }
+    }
+}
+
+// The answer for a file that is not read: its place is 0,0, and no command was checked.
+fn refusal(reason: Reason) -> Answer
+    ensures { λ r. ⌜ r ≡ openedAnswer (NotRead reason) ⌝ }
+{
+    Answer {
+        reason: number(reason),
+        window: 0,
+        index: 0,
+        count: 0,
+    }
+}
+
+// The whole answer for a file: it is read into two lent buffers, and exactly the words that it fills are checked.
+pub fn judge(file: &[u8], batch: &mut [u32], state: &mut [u32], records: &mut [u32]) -> Answer
+    ensures { λ r.
+        ⌜ Judged (now (file .entry)) (now (batch .entry)) (now (state .entry)) (now (records .entry)) r (now (batch .exit)) (now (state .exit)) (now (records .exit)) ⌝ }
+{
+    match read(file, batch, state) {
+        Opened::NotRead(reason) => refusal(reason),
+        Opened::Holds(contents) => {
+            let first = contents.batch.count;
+            let second = contents.state.count;
+            let scratch = trailer_word(file, SCRATCH_BYTES);
+            walk::check(
+                &batch[..first],
+                contents.batch.at,
+                &state[..second],
+                contents.state.at,
+                contents.scratch.at,
+                scratch,
+                records,
+            )
         }
     }
 }

@@ -1,0 +1,17 @@
+-- `refusal` meets its contract: the number is document 01's.
+-- Assumes nothing.
+use borrow.Author.Needs.{needs}
+use Rattle.rules.specs.File.{openedVerdict}
+use Rattle.rules.specs.Walk.{answerWith}
+use Rattle.capture.proofs.refusal.Statement.{statement}
+use Rattle.capture.proofs.refusal.Tie as tie
+
+number-requires : tie.Need-number-requires
+number-requires c κs = search needs
+
+returns : tie.Need-returns
+unfolding openedVerdict answerWith
+returns c = rw (c .number .ensures)
+
+pub refusal-spec : {M : Type 1} → statement M
+refusal-spec = tie.close (tie.spec number-requires returns)
