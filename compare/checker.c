@@ -3,8 +3,9 @@
  * not seen the proved code. It is unproved, and as fast as we could make it without losing its readability: one pass over
  * each command, tables that stand in the program, nothing allocated.
  *
- * Within one command the lower number goes first and then the lower dword. A fault is therefore a single number, reason
- * above place, and where a search can meet several the least is the one to report.
+ * Within one command the lower number goes first and then the lower dword. What is found of a command is therefore a single
+ * number: a fault is its reason above its place, a good command is more than any fault, and where a pass over groups finds
+ * several things the least of them counts.
  */
 #include "checker.h"
 
@@ -22,19 +23,35 @@ enum { WINDOW_LIMIT = 4096, BUDGET = 65536, TRAILER = 40, FILE_LIMIT = TRAILER +
 
 static const uint64_t TOP = (uint64_t)1 << 48;
 static const uint64_t NEVER_SET = 1; /* no dynamic base: a base has its low twelve bits zero */
-static const uint32_t HIGH = 0x0000FFFF;
 
-typedef uint32_t fault; /* reason << 16 | window << 13 | index, and an index is at most 4,096 */
-static const fault NONE = 0xFFFFFFFF;
-
-static inline fault batch_fault(uint32_t reason, uint32_t index) { return reason << 16 | index; }
-static inline fault least(fault a, fault b) { return a < b ? a : b; }
+/* Rows are called, not copied into the walk: or it has too many variables to keep them in registers. */
+#define APART __attribute__((noinline))
 
 struct windows {
-    const uint32_t *batch, *state;
-    uint32_t batch_count;
+    const uint32_t *batch, *batch_end, *state;
     uint64_t batch_at, batch_bytes, state_at, state_bytes, scratch_at, scratch_bytes;
 };
+
+/* ---- What is found ---- */
+
+/*
+ * What is found of a command, in one number: a good one's row and length, as its record has them, with bit 31 set; or a fault,
+ * reason << 16 | window << 13 | index, an index being at most 4,096.
+ */
+typedef uint32_t verdict;
+enum { IN_STATE = 1 << 13 };
+static const verdict GOOD = 0x80000000;
+
+static inline verdict good(uint32_t row, uint32_t length) { return GOOD | row << 24 | length << 16; }
+static inline verdict fault(uint32_t reason, uint64_t place) { return reason << 16 | (uint32_t)place; }
+static inline int is_fault(verdict v) { return v < GOOD; }
+static inline verdict least(verdict a, verdict b) { return a < b ? a : b; }
+
+/* A fault at a dword of the batch. */
+static inline verdict broken(const struct windows *w, uint32_t reason, const uint32_t *dword)
+{
+    return fault(reason, (uint64_t)(dword - w->batch));
+}
 
 /* ---- Ranges ---- */
 
@@ -45,6 +62,16 @@ static inline int inside(uint64_t at, uint64_t bytes, uint64_t address, uint64_t
     return offset < bytes && size <= bytes - offset;
 }
 
+static inline int in_batch(const struct windows *w, uint64_t address, uint64_t size)
+{
+    return inside(w->batch_at, w->batch_bytes, address, size);
+}
+
+static inline int in_state(const struct windows *w, uint64_t address, uint64_t size)
+{
+    return inside(w->state_at, w->state_bytes, address, size);
+}
+
 static inline int in_scratch(const struct windows *w, uint64_t address, uint64_t size)
 {
     return inside(w->scratch_at, w->scratch_bytes, address, size);
@@ -52,8 +79,7 @@ static inline int in_scratch(const struct windows *w, uint64_t address, uint64_t
 
 static inline int in_any(const struct windows *w, uint64_t address, uint64_t size)
 {
-    return inside(w->batch_at, w->batch_bytes, address, size) ||
-           inside(w->state_at, w->state_bytes, address, size) || in_scratch(w, address, size);
+    return in_batch(w, address, size) || in_state(w, address, size) || in_scratch(w, address, size);
 }
 
 static inline uint64_t address_of(const uint32_t *low) { return (uint64_t)low[1] << 32 | low[0]; }
@@ -88,56 +114,71 @@ static inline uint32_t row_of(uint32_t header)
 
 /* A command of one length: its header with its field, the header's free bits, and the bits allowed in dwords 1 onward. */
 struct shape {
-    uint32_t header, open, bits[16];
+    uint32_t row, header, open, bits[16];
 };
 
-static const struct shape start_shape = {0x18800001, 0x00400100, {0, 0xFFFFFFFC, 0xFFFF}};
-static const struct shape store_4_shape = {0x10000002, 0, {0, 0xFFFFFFFC, 0xFFFF, 0xFFFFFFFF}};
-static const struct shape store_8_shape = {0x10200003, 0, {0, 0xFFFFFFFC, 0xFFFF, 0xFFFFFFFF, 0xFFFFFFFF}};
-static const struct shape store_reg_shape = {0x12000002, 0, {0, 0x007FFFFC, 0xFFFFFFFC, 0xFFFF}};
-static const struct shape load_reg_shape = {0x14800002, 0, {0, 0x007FFFFC, 0xFFFFFFFC, 0xFFFF}};
+static const struct shape start_shape = {BATCH_START, 0x18800001, 0x00400100, {0, 0xFFFFFFFC, 0xFFFF}};
+static const struct shape store_4_shape = {STORE_IMM, 0x10000002, 0, {0, 0xFFFFFFFC, 0xFFFF, 0xFFFFFFFF}};
+static const struct shape store_8_shape = {STORE_IMM, 0x10200003, 0, {0, 0xFFFFFFFC, 0xFFFF, 0xFFFFFFFF, 0xFFFFFFFF}};
+static const struct shape store_reg_shape = {STORE_REG, 0x12000002, 0, {0, 0x007FFFFC, 0xFFFFFFFC, 0xFFFF}};
+static const struct shape load_reg_shape = {LOAD_REG, 0x14800002, 0, {0, 0x007FFFFC, 0xFFFFFFFC, 0xFFFF}};
 static const struct shape pipe_control_shape = {
-    0x7A000004, 0, {0, 0x0010FCBF, 0xFFFFFFFC, 0xFFFF, 0xFFFFFFFF, 0xFFFFFFFF}};
+    PIPE_CONTROL, 0x7A000004, 0, {0, 0x0010FCBF, 0xFFFFFFFC, 0xFFFF, 0xFFFFFFFF, 0xFFFFFFFF}};
 static const struct shape base_address_shape = {
-    0x6101000E, 0,
+    BASE_ADDRESS, 0x6101000E, 0,
     {0, 0xFFFFF7F1, 0xFFFF, 0x007F0000, 0xFFFFF7F1, 0xFFFF, 0xFFFFF7F1, 0xFFFF, 0xFFFFF7F1, 0xFFFF, 0xFFFFF7F1, 0xFFFF,
      0xFFFFF001, 0xFFFFF001, 0xFFFFF001, 0xFFFFF001}};
-static const struct shape index_buffer_shape = {0x780A0003, 0, {0, 0x37F, 0xFFFFFFFF, 0xFFFF, 0xFFFFFFFF}};
-static const struct shape topology_shape = {0x784B0000, 0, {0, 0x3F}};
-static const struct shape viewport_shape = {0x78230000, 0, {0, 0xFFFFFFE0}};
-static const struct shape colour_calc_shape = {0x780E0000, 0, {0, 0xFFFFFFC1}};
+static const struct shape index_buffer_shape = {INDEX_BUFFER, 0x780A0003, 0, {0, 0x37F, 0xFFFFFFFF, 0xFFFF, 0xFFFFFFFF}};
+static const struct shape topology_shape = {TOPOLOGY, 0x784B0000, 0, {0, 0x3F}};
+static const struct shape viewport_shape = {VIEWPORT, 0x78230000, 0, {0, 0xFFFFFFE0}};
+static const struct shape colour_calc_shape = {COLOUR_CALC, 0x780E0000, 0, {0, 0xFFFFFFC1}};
 static const struct shape primitive_shape = {
-    0x7B000005, 0x700, {0, 0x33F, 0xFFFFFFFF, 0xFFFFFFFF, 0xFFFFFFFF, 0xFFFFFFFF, 0xFFFFFFFF}};
+    PRIMITIVE, 0x7B000005, 0x700, {0, 0x33F, 0xFFFFFFFF, 0xFFFFFFFF, 0xFFFFFFFF, 0xFFFFFFFF, 0xFFFFFFFF}};
 
 static inline uint32_t length_of(uint32_t header) { return (header & 0xFF) + 2; }
 
+/* The batch has fewer than `length` dwords from here on. */
+static inline int too_long(const struct windows *w, const uint32_t *cmd, uint32_t length)
+{
+    return w->batch_end - cmd < (long)length;
+}
+
 /* Which of 8, 9 and 10 it is that a command breaks, once it is known to break one. */
-static fault why_not(const struct shape *s, const uint32_t *cmd, uint32_t at, uint32_t left)
+static APART verdict why_not(const struct shape *s, const struct windows *w, const uint32_t *cmd)
 {
     uint32_t i = 1;
-    if ((cmd[0] & 0xFF) != (s->header & 0xFF)) return batch_fault(LENGTH, at);
-    if (length_of(s->header) > left) return batch_fault(PAST_END, at);
-    if ((cmd[0] & ~s->open) != s->header) return batch_fault(BITS, at);
+    if ((cmd[0] & 0xFF) != (s->header & 0xFF)) return broken(w, LENGTH, cmd);
+    if (too_long(w, cmd, length_of(s->header))) return broken(w, PAST_END, cmd);
+    if ((cmd[0] & ~s->open) != s->header) return broken(w, BITS, cmd);
     while ((cmd[i] & ~s->bits[i]) == 0) i++;
-    return batch_fault(BITS, at + i);
+    return broken(w, BITS, cmd + i);
 }
 
-/* Numbers 8, 9 and 10 for a command of one length. `left` is what the batch still holds, from the header on. */
-static inline fault shaped(const struct shape *s, const uint32_t *cmd, uint32_t at, uint32_t left)
+/* Numbers 8, 9 and 10 for a command of one length: it keeps them all. */
+static inline int shaped(const struct shape *s, const struct windows *w, const uint32_t *cmd)
 {
     uint32_t length = length_of(s->header), outside = (cmd[0] & ~s->open) ^ s->header;
-    if (length > left) return why_not(s, cmd, at, left);
+    if (too_long(w, cmd, length)) return 0;
     for (uint32_t i = 1; i < length; i++) outside |= cmd[i] & ~s->bits[i];
-    return outside == 0 ? NONE : why_not(s, cmd, at, left);
+    return outside == 0;
 }
 
+static inline verdict good_shape(const struct shape *s) { return good(s->row, length_of(s->header)); }
+
 /* The same for the head of a command of groups: its field is a multiple of `group`, less 1, and at most `most`. */
-static inline fault grouped(uint32_t header, uint32_t key, uint32_t group, uint32_t most, uint32_t at, uint32_t left)
+static inline verdict grouped(uint32_t row, uint32_t key, uint32_t group, uint32_t most, const struct windows *w,
+                              const uint32_t *cmd)
 {
-    uint32_t field = header & 0xFF;
-    if (field % group != group - 1 || field > most) return batch_fault(LENGTH, at);
-    if (field + 2 > left) return batch_fault(PAST_END, at);
-    return (header ^ field) == key ? NONE : batch_fault(BITS, at);
+    uint32_t field = cmd[0] & 0xFF;
+    if (field % group != group - 1 || field > most) return broken(w, LENGTH, cmd);
+    if (too_long(w, cmd, field + 2)) return broken(w, PAST_END, cmd);
+    return (cmd[0] ^ field) == key ? good(row, field + 2) : broken(w, BITS, cmd);
+}
+
+/* And for a command that is its header alone, whose bits 7:0 are no field. */
+static inline verdict single(uint32_t row, uint32_t outside, uint64_t at)
+{
+    return outside ? fault(BITS, at) : good(row, 1);
 }
 
 /* ---- Codes ---- */
@@ -208,142 +249,155 @@ static inline int buffer_good(uint32_t dword) { return dword >> 26 <= 32 && (dwo
 
 /* ---- Rows: numbers 8 to 13 ---- */
 
-static inline fault header_only(uint32_t outside, uint32_t at) { return outside ? batch_fault(BITS, at) : NONE; }
-
-static inline fault batch_start(const struct windows *w, uint32_t level, const uint32_t *cmd, uint32_t at, uint32_t left)
+static APART verdict batch_start(const struct windows *w, uint32_t level, const uint32_t *cmd)
 {
-    fault first = shaped(&start_shape, cmd, at, left);
-    if (first != NONE) return first;
-    if (level == 1) return batch_fault(NESTED, at);
-    if ((cmd[0] & 0x100) == 0) return batch_fault(VALUE, at);
-    if (!inside(w->batch_at, w->batch_bytes, address_of(cmd + 1), 4)) return batch_fault(RANGE, at + 1);
-    return NONE;
+    const struct shape *s = &start_shape;
+    if (!shaped(s, w, cmd)) return why_not(s, w, cmd);
+    if (level != 0) return broken(w, NESTED, cmd);
+    if ((cmd[0] & 0x100) == 0) return broken(w, VALUE, cmd);
+    if (!in_batch(w, address_of(cmd + 1), 4)) return broken(w, RANGE, cmd + 1);
+    return good_shape(s);
 }
 
-static inline fault load_imm(const uint32_t *cmd, uint32_t at, uint32_t left)
+static APART verdict load_imm(const struct windows *w, const uint32_t *cmd)
 {
-    fault first = grouped(cmd[0], 0x11000000, 2, 127, at, left);
-    if (first != NONE) return first;
-    for (uint32_t i = 1; i < length_of(cmd[0]); i += 2) {
-        if (cmd[i] & ~0x007FFFFCu) return batch_fault(BITS, at + i);
-        if (!register_known(cmd[i])) first = least(first, batch_fault(VALUE, at + i));
+    verdict v = grouped(LOAD_IMM, 0x11000000, 2, 127, w, cmd);
+    if (is_fault(v)) return v;
+    for (const uint32_t *pair = cmd + 1, *end = cmd + length_of(cmd[0]); pair < end; pair += 2) {
+        if (pair[0] & ~0x007FFFFCu) return broken(w, BITS, pair);
+        if (!register_known(pair[0])) v = least(v, broken(w, VALUE, pair));
     }
-    return first;
+    return v;
 }
 
-static inline fault store_imm(const struct windows *w, const uint32_t *cmd, uint32_t at, uint32_t left)
+static inline verdict store_bytes(const struct shape *s, uint32_t bytes, const struct windows *w, const uint32_t *cmd)
 {
-    uint32_t eight = cmd[0] >> 21 & 1;
-    fault first = eight ? shaped(&store_8_shape, cmd, at, left) : shaped(&store_4_shape, cmd, at, left);
-    if (first != NONE) return first;
-    if (eight && cmd[1] % 8 != 0) return batch_fault(VALUE, at + 1);
-    if (!in_scratch(w, address_of(cmd + 1), eight ? 8 : 4)) return batch_fault(RANGE, at + 1);
-    return NONE;
+    if (!shaped(s, w, cmd)) return why_not(s, w, cmd);
+    if (cmd[1] % bytes != 0) return broken(w, VALUE, cmd + 1); /* for four, the mask has seen to it */
+    if (!in_scratch(w, address_of(cmd + 1), bytes)) return broken(w, RANGE, cmd + 1);
+    return good_shape(s);
 }
 
-static inline fault store_reg(const struct windows *w, const uint32_t *cmd, uint32_t at, uint32_t left)
+/* Bit 21 says which of the two lengths it must have. */
+static APART verdict store_imm(const struct windows *w, const uint32_t *cmd)
 {
-    fault first = shaped(&store_reg_shape, cmd, at, left);
-    if (first != NONE) return first;
-    if (!register_known(cmd[1])) return batch_fault(VALUE, at + 1);
-    if (!in_scratch(w, address_of(cmd + 2), 4)) return batch_fault(RANGE, at + 2);
-    return NONE;
+    return cmd[0] & 0x00200000 ? store_bytes(&store_8_shape, 8, w, cmd) : store_bytes(&store_4_shape, 4, w, cmd);
 }
 
-static inline fault load_reg(const struct windows *w, const uint32_t *cmd, uint32_t at, uint32_t left)
+static APART verdict store_reg(const struct windows *w, const uint32_t *cmd)
 {
-    fault first = shaped(&load_reg_shape, cmd, at, left);
-    if (first != NONE) return first;
-    if (!register_known(cmd[1])) return batch_fault(VALUE, at + 1);
-    if (!in_any(w, address_of(cmd + 2), 4)) return batch_fault(RANGE, at + 2);
-    return NONE;
+    const struct shape *s = &store_reg_shape;
+    if (!shaped(s, w, cmd)) return why_not(s, w, cmd);
+    if (!register_known(cmd[1])) return broken(w, VALUE, cmd + 1);
+    if (!in_scratch(w, address_of(cmd + 2), 4)) return broken(w, RANGE, cmd + 2);
+    return good_shape(s);
 }
 
-static inline fault pipe_control(const struct windows *w, const uint32_t *cmd, uint32_t at, uint32_t left)
+static APART verdict load_reg(const struct windows *w, const uint32_t *cmd)
 {
-    fault first = shaped(&pipe_control_shape, cmd, at, left);
-    if (first != NONE) return first;
+    const struct shape *s = &load_reg_shape;
+    if (!shaped(s, w, cmd)) return why_not(s, w, cmd);
+    if (!register_known(cmd[1])) return broken(w, VALUE, cmd + 1);
+    if (!in_any(w, address_of(cmd + 2), 4)) return broken(w, RANGE, cmd + 2);
+    return good_shape(s);
+}
+
+static APART verdict pipe_control(const struct windows *w, const uint32_t *cmd)
+{
+    const struct shape *s = &pipe_control_shape;
+    if (!shaped(s, w, cmd)) return why_not(s, w, cmd);
     if ((cmd[1] >> 14 & 3) == 0) { /* no post-sync: the dwords that it would use are zero */
         for (uint32_t i = 2; i < 6; i++)
-            if (cmd[i] != 0) return batch_fault(VALUE, at + i);
-        return NONE;
+            if (cmd[i] != 0) return broken(w, VALUE, cmd + i);
+        return good_shape(s);
     }
-    if (cmd[2] % 8 != 0) return batch_fault(VALUE, at + 2);
-    if (!in_scratch(w, address_of(cmd + 2), 8)) return batch_fault(RANGE, at + 2);
-    return NONE;
+    if (cmd[2] % 8 != 0) return broken(w, VALUE, cmd + 2);
+    if (!in_scratch(w, address_of(cmd + 2), 8)) return broken(w, RANGE, cmd + 2);
+    return good_shape(s);
 }
 
-static inline fault vertex_buffers(const struct windows *w, const uint32_t *cmd, uint32_t at, uint32_t left)
+static APART verdict base_address(const struct windows *w, const uint32_t *cmd)
 {
-    fault first = grouped(cmd[0], 0x78080000, 4, 131, at, left);
-    if (first != NONE) return first;
-    for (uint32_t i = 1; i < length_of(cmd[0]); i += 4) {
-        const uint32_t *group = cmd + i;
-        if (group[0] & ~0xFC7F6FFFu) return batch_fault(BITS, at + i);
-        if (group[2] & ~HIGH) return batch_fault(BITS, at + i + 2);
-        if (!buffer_good(group[0])) first = least(first, batch_fault(VALUE, at + i));
-        if ((group[0] & 0x6000) == 0x4000 && group[3] != 0 && !in_any(w, address_of(group + 1), group[3]))
-            first = least(first, batch_fault(RANGE, at + i + 1));
+    const struct shape *s = &base_address_shape;
+    return shaped(s, w, cmd) ? good_shape(s) : why_not(s, w, cmd);
+}
+
+/* A buffer that is not null and whose address is to be taken lies in one window. */
+static inline int range_good(const struct windows *w, const uint32_t *group)
+{
+    return (group[0] & 0x6000) != 0x4000 || group[3] == 0 || in_any(w, address_of(group + 1), group[3]);
+}
+
+static APART verdict vertex_buffers(const struct windows *w, const uint32_t *cmd)
+{
+    verdict v = grouped(VERTEX_BUFFERS, 0x78080000, 4, 131, w, cmd);
+    if (is_fault(v)) return v;
+    for (const uint32_t *group = cmd + 1, *end = cmd + length_of(cmd[0]); group < end; group += 4) {
+        if (group[0] & ~0xFC7F6FFFu) return broken(w, BITS, group);
+        if (group[2] & ~0x0000FFFFu) return broken(w, BITS, group + 2);
+        if (!buffer_good(group[0])) v = least(v, broken(w, VALUE, group));
+        if (!range_good(w, group)) v = least(v, broken(w, RANGE, group + 1));
     }
-    return first;
+    return v;
 }
 
-static inline fault vertex_elements(const uint32_t *cmd, uint32_t at, uint32_t left)
+static APART verdict vertex_elements(const struct windows *w, const uint32_t *cmd)
 {
-    fault first = grouped(cmd[0], 0x78090000, 2, 67, at, left);
-    if (first != NONE) return first;
-    for (uint32_t i = 1; i < length_of(cmd[0]); i += 2) {
-        if (cmd[i] & ~0xFFFF8FFFu) return batch_fault(BITS, at + i);
-        if (cmd[i + 1] & ~0x77770000u) return batch_fault(BITS, at + i + 1);
-        if (!element_good(cmd[i])) first = least(first, batch_fault(VALUE, at + i));
-        if (!components_good(cmd[i + 1])) first = least(first, batch_fault(VALUE, at + i + 1));
+    verdict v = grouped(VERTEX_ELEMENTS, 0x78090000, 2, 67, w, cmd);
+    if (is_fault(v)) return v;
+    for (const uint32_t *group = cmd + 1, *end = cmd + length_of(cmd[0]); group < end; group += 2) {
+        if (group[0] & ~0xFFFF8FFFu) return broken(w, BITS, group);
+        if (group[1] & ~0x77770000u) return broken(w, BITS, group + 1);
+        if (!element_good(group[0])) v = least(v, broken(w, VALUE, group));
+        if (!components_good(group[1])) v = least(v, broken(w, VALUE, group + 1));
     }
-    return first;
+    return v;
 }
 
-static inline fault index_buffer(const struct windows *w, const uint32_t *cmd, uint32_t at, uint32_t left)
+static APART verdict index_buffer(const struct windows *w, const uint32_t *cmd)
 {
-    fault first = shaped(&index_buffer_shape, cmd, at, left);
-    if (first != NONE) return first;
-    if ((cmd[1] >> 8 & 3) == 3) return batch_fault(VALUE, at + 1);
-    if (cmd[4] != 0 && !in_any(w, address_of(cmd + 2), cmd[4])) return batch_fault(RANGE, at + 2);
-    return NONE;
+    const struct shape *s = &index_buffer_shape;
+    if (!shaped(s, w, cmd)) return why_not(s, w, cmd);
+    if ((cmd[1] >> 8 & 3) == 3) return broken(w, VALUE, cmd + 1);
+    if (cmd[4] != 0 && !in_any(w, address_of(cmd + 2), cmd[4])) return broken(w, RANGE, cmd + 2);
+    return good_shape(s);
 }
 
-static inline fault topology(const uint32_t *cmd, uint32_t at, uint32_t left)
+static APART verdict topology(const struct windows *w, const uint32_t *cmd)
 {
-    fault first = shaped(&topology_shape, cmd, at, left);
-    if (first != NONE) return first;
-    return topology_known(cmd[1]) ? NONE : batch_fault(VALUE, at + 1);
+    const struct shape *s = &topology_shape;
+    if (!shaped(s, w, cmd)) return why_not(s, w, cmd);
+    return topology_known(cmd[1]) ? good_shape(s) : broken(w, VALUE, cmd + 1);
 }
 
-static inline fault primitive(const uint32_t *cmd, uint32_t at, uint32_t left)
+static APART verdict primitive(const struct windows *w, const uint32_t *cmd)
 {
-    fault first = shaped(&primitive_shape, cmd, at, left);
-    if (first != NONE || (cmd[1] & 0x200) == 0) return first;
-    if ((cmd[0] & 0x400) || (cmd[1] & 0x100)) return batch_fault(VALUE, at + 1);
-    if (cmd[3] != 0) return batch_fault(VALUE, at + 3);
-    if (cmd[5] != 0) return batch_fault(VALUE, at + 5);
-    if (cmd[6] != 0) return batch_fault(VALUE, at + 6);
-    return NONE;
+    const struct shape *s = &primitive_shape;
+    if (!shaped(s, w, cmd)) return why_not(s, w, cmd);
+    if ((cmd[1] & 0x200) == 0) return good_shape(s);
+    if ((cmd[0] & 0x400) || (cmd[1] & 0x100)) return broken(w, VALUE, cmd + 1);
+    if (cmd[3] != 0) return broken(w, VALUE, cmd + 3);
+    if (cmd[5] != 0) return broken(w, VALUE, cmd + 5);
+    if (cmd[6] != 0) return broken(w, VALUE, cmd + 6);
+    return good_shape(s);
 }
 
-/* ---- Structures, numbers 14 to 17 ---- */
+/* ---- Structures: numbers 14 to 17 ---- */
 
 struct part {
     const uint32_t *words; /* null: in neither lent window */
-    uint32_t place;        /* window << 13 | index of the first word */
+    uint64_t place;        /* of the first word, as a fault has it */
 };
 
 static inline struct part lookup(const struct windows *w, uint64_t address, uint64_t size)
 {
-    if (inside(w->batch_at, w->batch_bytes, address, size)) {
-        uint32_t i = (uint32_t)(address - w->batch_at) / 4;
+    if (in_batch(w, address, size)) {
+        uint64_t i = (address - w->batch_at) / 4;
         return (struct part){w->batch + i, i};
     }
-    if (inside(w->state_at, w->state_bytes, address, size)) {
-        uint32_t i = (uint32_t)(address - w->state_at) / 4;
-        return (struct part){w->state + i, 1u << 13 | i};
+    if (in_state(w, address, size)) {
+        uint64_t i = (address - w->state_at) / 4;
+        return (struct part){w->state + i, IN_STATE | i};
     }
     return (struct part){0, 0};
 }
@@ -356,103 +410,121 @@ static inline float as_float(uint32_t bits)
     return both.value;
 }
 
-static inline fault depth_range(struct part p)
+static APART verdict viewport(const struct windows *w, uint64_t base, const uint32_t *cmd)
 {
-    if (is_nan(p.words[0])) return STRUCTURE_VALUE << 16 | p.place;
-    if (is_nan(p.words[1]) || as_float(p.words[0]) > as_float(p.words[1]))
-        return STRUCTURE_VALUE << 16 | (p.place + 1);
-    return NONE;
-}
-
-static inline fault colour_state(struct part p)
-{
-    if (p.words[0] & ~0xFFFF8001u) return STRUCTURE_BITS << 16 | p.place;
-    for (uint32_t i = 2; i < 6; i++)
-        if (is_nan(p.words[i])) return STRUCTURE_VALUE << 16 | (p.place + i);
-    return NONE;
-}
-
-static inline fault viewport(const struct windows *w, uint64_t base, const uint32_t *cmd, uint32_t at, uint32_t left)
-{
-    fault first = shaped(&viewport_shape, cmd, at, left);
-    if (first != NONE) return first;
-    if (base == NEVER_SET) return batch_fault(BASELESS, at + 1);
+    const struct shape *s = &viewport_shape;
+    if (!shaped(s, w, cmd)) return why_not(s, w, cmd);
+    if (base == NEVER_SET) return broken(w, BASELESS, cmd + 1);
     struct part p = lookup(w, base + cmd[1], 2 * 4);
-    return p.words ? depth_range(p) : batch_fault(NOWHERE, at + 1);
+    if (!p.words) return broken(w, NOWHERE, cmd + 1);
+    if (is_nan(p.words[0])) return fault(STRUCTURE_VALUE, p.place);
+    if (is_nan(p.words[1])) return fault(STRUCTURE_VALUE, p.place + 1);
+    return as_float(p.words[0]) > as_float(p.words[1]) ? fault(STRUCTURE_VALUE, p.place + 1) : good_shape(s);
 }
 
-static inline fault colour_calc(const struct windows *w, uint64_t base, const uint32_t *cmd, uint32_t at, uint32_t left)
+static APART verdict colour_calc(const struct windows *w, uint64_t base, const uint32_t *cmd)
 {
-    fault first = shaped(&colour_calc_shape, cmd, at, left);
-    if (first != NONE || (cmd[1] & 1) == 0) return first;
-    if (base == NEVER_SET) return batch_fault(BASELESS, at + 1);
+    const struct shape *s = &colour_calc_shape;
+    if (!shaped(s, w, cmd)) return why_not(s, w, cmd);
+    if ((cmd[1] & 1) == 0) return good_shape(s);
+    if (base == NEVER_SET) return broken(w, BASELESS, cmd + 1);
     struct part p = lookup(w, base + (cmd[1] & ~63u), 6 * 4);
-    return p.words ? colour_state(p) : batch_fault(NOWHERE, at + 1);
+    if (!p.words) return broken(w, NOWHERE, cmd + 1);
+    if (p.words[0] & ~0xFFFF8001u) return fault(STRUCTURE_BITS, p.place);
+    for (uint32_t i = 2; i < 6; i++)
+        if (is_nan(p.words[i])) return fault(STRUCTURE_VALUE, p.place + i);
+    return good_shape(s);
 }
 
 /* ---- The walk ---- */
 
-static struct lungevati_answer answer(fault f, uint32_t count)
+static inline struct lungevati_answer answer(verdict fault_or_0, uint64_t count)
 {
-    return (struct lungevati_answer){f >> 16, f >> 13 & 1, f & 0x1FFF, count};
+    return (struct lungevati_answer){fault_or_0 >> 16, (fault_or_0 & IN_STATE) != 0, fault_or_0 & 0x1FFF, (uint32_t)count};
+}
+
+/* Records a good command if there is room. `place` is the lower half of its record; a good verdict has the upper. */
+static inline int recorded(verdict v, uint32_t place, uint32_t **out, const uint32_t *full)
+{
+    if (is_fault(v) || *out == full) return 0;
+    *(*out)++ = (v ^ GOOD) | place;
+    return 1;
+}
+
+/*
+ * Why a command was not recorded. The budget goes first: once it is spent, it does not matter what else is wrong with the
+ * command that would come next. The room goes last: a good command was only short of that.
+ */
+static APART struct lungevati_answer refused(verdict v, uint64_t at, const uint32_t *records, const uint32_t *out)
+{
+    uint64_t count = (uint64_t)(out - records);
+    if (count == BUDGET) return answer(fault(ENDLESS, at), count);
+    return answer(is_fault(v) ? v : fault(FULL, at), count);
+}
+
+/* The last command of a run, at level 0. */
+static APART struct lungevati_answer finish(uint32_t header, uint64_t at, uint32_t *records, uint32_t *out,
+                                            const uint32_t *full)
+{
+    verdict v = single(BATCH_END, header ^ 0x05000000, at);
+    if (!recorded(v, (uint32_t)at, &out, full)) return refused(v, at, records, out);
+    return answer(0, (uint64_t)(out - records));
+}
+
+/* The rows that do nothing but go on by their length. */
+static inline verdict plain_row(uint32_t row, const struct windows *w, uint64_t base, const uint32_t *cmd, uint64_t at)
+{
+    switch (row) {
+    case NOOP: return single(NOOP, cmd[0] & ~0x003FFFFFu, at);
+    case LOAD_IMM: return load_imm(w, cmd);
+    case STORE_IMM: return store_imm(w, cmd);
+    case STORE_REG: return store_reg(w, cmd);
+    case LOAD_REG: return load_reg(w, cmd);
+    case PIPE_CONTROL: return pipe_control(w, cmd);
+    case PIPELINE_SELECT: return single(PIPELINE_SELECT, cmd[0] ^ 0x69040000, at);
+    case VERTEX_BUFFERS: return vertex_buffers(w, cmd);
+    case VERTEX_ELEMENTS: return vertex_elements(w, cmd);
+    case INDEX_BUFFER: return index_buffer(w, cmd);
+    case TOPOLOGY: return topology(w, cmd);
+    case VIEWPORT: return viewport(w, base, cmd);
+    case COLOUR_CALC: return colour_calc(w, base, cmd);
+    case PRIMITIVE: return primitive(w, cmd);
+    default: return fault(UNKNOWN, at);
+    }
 }
 
 static struct lungevati_answer walk(const struct windows *w, uint32_t *records, size_t room)
 {
-    uint32_t at = 0, level = 0, kept = 0, count = 0;
-    uint64_t base = NEVER_SET;
+    uint32_t *out = records, *full = records + (room < BUDGET ? room : BUDGET);
+    uint64_t at = 0, kept = 0, base = NEVER_SET, batch_count = (uint64_t)(w->batch_end - w->batch);
+    uint32_t level = 0; /* in bit 12, as in a record */
 
     for (;;) {
-        if (count == BUDGET) return answer(batch_fault(ENDLESS, at), count);
-        if (at == w->batch_count) return answer(batch_fault(RUN_OUT, at), count);
-
+        if (at == batch_count) return refused(fault(RUN_OUT, at), at, records, out);
         const uint32_t *cmd = w->batch + at;
-        uint32_t row = row_of(cmd[0]), left = w->batch_count - at, length = length_of(cmd[0]);
-        uint32_t next = at + length, next_level = level, ended = 0;
-        fault first;
+        uint32_t header = cmd[0], row = row_of(header);
+        verdict v;
         switch (row) {
-        case NOOP:
-            first = header_only(cmd[0] & ~0x003FFFFFu, at);
-            length = 1, next = at + 1;
-            break;
         case BATCH_END:
-            first = header_only(cmd[0] ^ 0x05000000, at);
-            length = 1, next = kept, next_level = 0, ended = level == 0;
-            break;
+            if (level == 0) return finish(header, at, records, out, full);
+            v = single(BATCH_END, header ^ 0x05000000, at);
+            if (!recorded(v, level | (uint32_t)at, &out, full)) return refused(v, at, records, out);
+            at = kept, level = 0;
+            continue;
         case BATCH_START:
-            first = batch_start(w, level, cmd, at, left);
-            if (first != NONE) break;
-            if (cmd[0] & 0x00400000) kept = next, next_level = 1;
-            next = (uint32_t)(address_of(cmd + 1) - w->batch_at) / 4;
-            break;
-        case LOAD_IMM: first = load_imm(cmd, at, left); break;
-        case STORE_IMM: first = store_imm(w, cmd, at, left); break;
-        case STORE_REG: first = store_reg(w, cmd, at, left); break;
-        case LOAD_REG: first = load_reg(w, cmd, at, left); break;
-        case PIPE_CONTROL: first = pipe_control(w, cmd, at, left); break;
-        case PIPELINE_SELECT:
-            first = header_only(cmd[0] ^ 0x69040000, at);
-            length = 1, next = at + 1;
-            break;
+            v = batch_start(w, level, cmd);
+            if (!recorded(v, level | (uint32_t)at, &out, full)) return refused(v, at, records, out);
+            if (header & 0x00400000) kept = at + 3, level = 1 << 12;
+            at = (address_of(cmd + 1) - w->batch_at) / 4;
+            continue;
         case BASE_ADDRESS:
-            first = shaped(&base_address_shape, cmd, at, left);
-            if (first == NONE && (cmd[6] & 1)) base = address_of(cmd + 6) & ~(uint64_t)0xFFF;
+            v = base_address(w, cmd);
+            if (!is_fault(v) && (cmd[6] & 1)) base = address_of(cmd + 6) & ~(uint64_t)0xFFF;
             break;
-        case VERTEX_BUFFERS: first = vertex_buffers(w, cmd, at, left); break;
-        case VERTEX_ELEMENTS: first = vertex_elements(cmd, at, left); break;
-        case INDEX_BUFFER: first = index_buffer(w, cmd, at, left); break;
-        case TOPOLOGY: first = topology(cmd, at, left); break;
-        case VIEWPORT: first = viewport(w, base, cmd, at, left); break;
-        case COLOUR_CALC: first = colour_calc(w, base, cmd, at, left); break;
-        case PRIMITIVE: first = primitive(cmd, at, left); break;
-        default: first = batch_fault(UNKNOWN, at);
+        default: v = plain_row(row, w, base, cmd, at);
         }
-        if (first != NONE) return answer(first, count);
-        if (count == room) return answer(batch_fault(FULL, at), count);
-
-        records[count++] = row << 24 | length << 16 | level << 12 | at;
-        if (ended) return answer(0, count);
-        at = next, level = next_level;
+        if (!recorded(v, level | (uint32_t)at, &out, full)) return refused(v, at, records, out);
+        at += v >> 16 & 0xFF;
     }
 }
 
@@ -488,11 +560,11 @@ struct lungevati_answer other_check(const uint32_t *batch, size_t batch_len, uin
                                     uint64_t scratch_at, uint32_t scratch_len,
                                     uint32_t *records, size_t records_len)
 {
-    if (counts_wrong(batch_len, state_len)) return answer(COUNTS << 16, 0);
-    struct windows w = {batch, state, (uint32_t)batch_len, batch_at, 4 * batch_len,
+    if (counts_wrong(batch_len, state_len)) return answer(fault(COUNTS, 0), 0);
+    struct windows w = {batch, batch + batch_len, state, batch_at, 4 * batch_len,
                         state_at, 4 * state_len, scratch_at, scratch_len};
     uint32_t reason = unsound(&w);
-    return reason ? answer(reason << 16, 0) : walk(&w, records, records_len);
+    return reason ? answer(fault(reason, 0), 0) : walk(&w, records, records_len);
 }
 
 /* ---- The capture file ---- */

@@ -109,7 +109,8 @@ static size_t state_length(void)
 {
     static const uint32_t ends[] = {1, 2, 5, 6, 9, 10, 16};
     static const uint32_t edges[] = {0, 1024, 4096};
-    return one_in(6) ? PICK(edges) : 16 * below(one_in(8) ? 255 : 12) + PICK(ends);
+    uint32_t whole = 16 * below(one_in(8) ? 255 : 12);
+    return one_in(6) ? PICK(edges) : whole + PICK(ends);
 }
 
 static void address(uint32_t which, uint64_t at)
@@ -136,14 +137,16 @@ static uint64_t all_pages(void)
 
 static void place_windows(void)
 {
+    int gaps = one_in(2);
+    uint64_t back = PAGE * (uint64_t)(1 + below(5));
     switch (below(6)) {
     case 0:
         m.c->batch_at = 0x100000, m.c->state_at = 0x200000, m.c->scratch_at = 0x300000;
         break;
-    case 1: in_a_row(PAGE * (uint64_t)below(1 << 20), one_in(2)); break;
+    case 1: in_a_row(PAGE * (uint64_t)below(1 << 20), gaps); break;
     case 2: in_a_row(TOP - all_pages(), 0); break;
-    case 3: in_a_row(((uint64_t)1 + below(64)) * ((uint64_t)1 << 32) - PAGE * (uint64_t)(1 + below(5)), one_in(2)); break;
-    case 4: in_a_row(0, one_in(2)); break;
+    case 3: in_a_row(((uint64_t)1 + below(64)) * ((uint64_t)1 << 32) - back, gaps); break;
+    case 4: in_a_row(0, gaps); break;
     default: /* far apart: each in a part of its own */
         for (uint32_t i = 0; i < 3; i++)
             address(i, (uint64_t)i * (TOP / 4) + PAGE * (uint64_t)below(0x7FFFFFFF));
@@ -382,7 +385,8 @@ static int good_vertex_buffers(uint32_t *cmd, uint32_t length)
 static int good_vertex_elements(uint32_t *cmd, uint32_t length)
 {
     for (uint32_t i = 1; i < length; i += 2) {
-        cmd[i] = (cmd[i] & 0x02008FFF) | (one_in(4) ? 32 : below(33)) << 26 | good_format() << 16;
+        uint32_t index = one_in(4) ? 32 : below(33);
+        cmd[i] = (cmd[i] & 0x02008FFF) | index << 26 | good_format() << 16;
         cmd[i + 1] = good_components();
     }
     return 1;
@@ -525,8 +529,9 @@ struct shape {
 static void emit_commands(struct shape s, uint32_t end, uint32_t commands, int second)
 {
     for (uint32_t i = 0; i < commands; i++) {
+        uint32_t to = m.hidden && one_in(3) ? m.hidden : 0;
         if (m.at + 3 <= end && m.made < COMMANDS && !second && s.seconds > 0 && one_in(m.aim == 11 ? 2 : 4))
-            emit_start(1, s.mains + below(s.seconds), m.hidden && one_in(3) ? m.hidden : 0);
+            emit_start(1, s.mains + below(s.seconds), to);
         else if (!second && one_in(20))
             emit_hiding(end);
         else if (!emit(some_row(), end, second))
@@ -574,8 +579,8 @@ static void emit_blocks(struct shape s)
 static void make_run(void)
 {
     struct capture *c = m.c;
-    struct shape s = {1 + below(one_in(3) ? 5 : 1), below(one_in(2) ? 6 : 1)};
-    uint32_t planned = (uint32_t)c->batch_len;
+    uint32_t planned = (uint32_t)c->batch_len, mains = 1 + below(one_in(3) ? 5 : 1);
+    struct shape s = {mains, below(one_in(2) ? 6 : 1)};
     if (m.aim == 11) s.seconds++;
     if (planned < 3 * (s.mains + s.seconds) + 1) s = (struct shape){1, 0};
 
@@ -596,45 +601,46 @@ static void emit_short(uint32_t end, int second)
 /* A loop that never ends; at its smallest a start that goes to itself. */
 static void make_endless(void)
 {
-    uint32_t before = below(3) * below(20), in_loop = below(3) * below(20), calls = one_in(2);
+    uint32_t before = one_in(3) ? 0 : below(40), in_loop = one_in(3) ? 0 : below(40), called = below(20);
     m.limit = LIMIT, m.whole = 0;
-    for (uint32_t i = 0; i < before; i++) emit_short(1000, 0);
-    uint32_t loop = m.at;
-    for (uint32_t i = 0; i < in_loop; i++) emit_short(2000, 0);
-    if (calls) emit_start(1, 1, 0);
-    emit_start(0, 0, loop);
-    if (loop == 0) m.starts[0] = 0;
+    for (uint32_t i = 0; i < before; i++) emit_short(LIMIT, 0);
+    m.starts[0] = m.at;
+    for (uint32_t i = 0; i < in_loop; i++) emit_short(LIMIT, 0);
+    if (one_in(2)) emit_start(1, 1, 0);
+    emit_start(0, 0, 0);
     m.starts[1] = m.at;
-    for (uint32_t i = 0; i < below(20); i++) emit_short(3000, 1);
+    for (uint32_t i = 0; i < called; i++) emit_short(LIMIT, 1);
     emit_end(1);
     patch();
     m.c->batch_len = m.at;
 }
 
+/* Starts that call `to`, single commands, and what comes after these: an end, or no more, or something that is no command. */
+static void emit_calls(uint32_t calls, uint32_t to, uint32_t singles, uint32_t kind)
+{
+    for (uint32_t i = 0; i < calls; i++) emit_start(1, 0, to);
+    for (uint32_t i = 0; i < singles; i++) emit(NOOP, LIMIT, 0);
+    if (kind == 0) emit_end(0);
+    else emit(NOOP, LIMIT, 0);
+    if (kind == 2) m.c->batch[m.at++] = one_in(2) ? 0x40000000 : word();
+}
+
 /*
  * A run of a number of commands that is at the budget or next to it: a second-level batch, called again and again, and so many
- * single commands after the calls that the sum is right. It ends properly, or runs out at the batch's last dword.
+ * single commands after the calls that the sum is right.
  */
 static void make_exact(void)
 {
-    uint32_t total = BUDGET - 2 + below(5), ends = !one_in(3), jumps = !ends || one_in(2);
+    uint32_t total = BUDGET - 2 + below(5), kind = one_in(2) ? 0 : 1 + below(2), jumps = kind != 0 || one_in(2);
     uint32_t calls = 20 + below(60), each = (total - jumps - 1) / calls, singles = (total - jumps - 1) % calls;
-    uint32_t main_dwords = 3 * calls + singles + 1, first = jumps ? 3 : main_dwords;
+    uint32_t main_dwords = 3 * calls + singles + 2;
     m.limit = LIMIT, m.whole = 0;
-    if (jumps) emit_start(0, 1, 0);
-    for (int part = 0; part < 2; part++) {
-        if (part == (int)jumps) {
-            m.starts[1] = m.at;
-            for (uint32_t i = 0; i < calls; i++) emit_start(1, 0, first);
-            for (uint32_t i = 0; i < singles; i++) emit(NOOP, LIMIT, 0);
-            if (ends) emit_end(0);
-            else emit(NOOP, LIMIT, 0);
-        } else {
-            uint32_t after = 1 + (jumps ? main_dwords : 0); /* what must still fit behind this batch */
-            for (uint32_t i = each - 2; i > 0; i--) emit_short(LIMIT - after - (i - 1), 1);
-            emit_end(1);
-        }
-    }
+    if (jumps) emit_start(0, 1, 0); /* over the second-level batch, to what calls it */
+    else emit_calls(calls, main_dwords - 1, singles, kind);
+    for (uint32_t i = each - 2; i > 0; i--) emit_short(LIMIT - i - (jumps ? main_dwords : 0), 1);
+    emit_end(1);
+    m.starts[1] = m.at;
+    if (jumps) emit_calls(calls, 3, singles, kind);
     patch();
     m.c->batch_len = m.at;
 }
@@ -734,7 +740,8 @@ static int spoil_bits(uint32_t *cmd, const struct command *made)
 static int spoil_nesting(uint32_t *cmd, const struct command *made)
 {
     if (!made->second || made->at + 3 > m.c->batch_len) return 0;
-    cmd[0] = 0x18800001 | (one_in(4) ? 0 : 0x100) | (one_in(2) ? 0x400000 : 0);
+    cmd[0] = 0x18800001 | (one_in(4) ? 0 : 0x100);
+    cmd[0] |= one_in(2) ? 0x400000 : 0;
     put_address(cmd + 1, one_in(4) ? word() & ~3u : m.c->batch_at);
     return 1;
 }
@@ -742,12 +749,14 @@ static int spoil_nesting(uint32_t *cmd, const struct command *made)
 static uint32_t bad_register(void)
 {
     static const uint32_t list[] = {0x2410, 0x2414, 0x241C, 0x2424, 0x242C, 0x2444, 0x2448, 0x23FC, 0x25FC, 0x2680, 0, 0x7FFFFC};
-    return one_in(5) ? word() & 0x7FFFFC : one_in(5) ? good_register() ^ 1u << (2 + below(21)) : PICK(list);
+    uint32_t bit = 1u << (2 + below(21));
+    return one_in(5) ? word() & 0x7FFFFC : one_in(5) ? good_register() ^ bit : PICK(list);
 }
 
 static int spoil_load_imm(uint32_t *cmd, uint32_t length)
 {
-    cmd[1 + 2 * below((length - 1) / 2)] = bad_register();
+    uint32_t offset = bad_register();
+    cmd[1 + 2 * below((length - 1) / 2)] = offset;
     return 1;
 }
 
@@ -769,11 +778,11 @@ static int spoil_buffer(uint32_t *cmd, uint32_t length)
 
 static int spoil_element(uint32_t *cmd, uint32_t length)
 {
-    uint32_t *group = cmd + 1 + 2 * below((length - 1) / 2);
+    uint32_t *group = cmd + 1 + 2 * below((length - 1) / 2), nibble = 16 + 4 * below(4);
     switch (below(3)) {
     case 0: group[0] = (group[0] & 0x03FFFFFF) | (33 + below(one_in(2) ? 1 : 31)) << 26; break;
     case 1: group[0] = (group[0] & ~0x01FF0000u) | below(512) << 16; break;
-    default: group[1] = one_in(2) ? word() & 0x77770000 : group[1] ^ 1u << (16 + 4 * below(4) + below(3));
+    default: group[1] = one_in(2) ? word() & 0x77770000 : group[1] ^ 1u << (nibble + below(3));
     }
     return 1;
 }
@@ -781,11 +790,12 @@ static int spoil_element(uint32_t *cmd, uint32_t length)
 static int spoil_primitive(uint32_t *cmd)
 {
     static const uint32_t dwords[] = {3, 5, 6};
+    uint32_t bit = 1u << below(32);
     cmd[1] |= 0x200;
     switch (below(3)) {
     case 0: cmd[0] |= 0x400; break;
     case 1: cmd[1] |= 0x100; break;
-    default: cmd[PICK(dwords)] = 1u << below(32);
+    default: cmd[PICK(dwords)] = bit;
     }
     return 1;
 }
@@ -813,9 +823,9 @@ static int spoil_value(uint32_t *cmd, const struct command *made)
 static uint64_t bad_place(uint64_t size, uint64_t step, uint64_t at)
 {
     struct window w = window(below(3));
+    uint64_t anywhere = dice_roll(&m.dice) / step * step, high_bit = (uint64_t)1 << (32 + below(16));
     const uint64_t edges[] = {w.at - step, (w.at + w.bytes) / step * step, (w.at + w.bytes - size) / step * step + step,
-                              TOP - step, w.at, dice_roll(&m.dice) / step * step, at ^ ((uint64_t)1 << (32 + below(16))),
-                              0, at + step, at - step};
+                              TOP - step, w.at, anywhere, at ^ high_bit, 0, at + step, at - step};
     return PICK(edges) % TOP;
 }
 
@@ -879,10 +889,10 @@ static int spoil_structure_bits(const struct command *made)
 
 static int spoil_structure_value(const struct command *made)
 {
-    uint32_t *words = made->structure;
+    uint32_t *words = made->structure, nan = nan_bits();
     if (!words) return 0;
-    if (made->row == COLOUR_CALC) return words[2 + below(4)] = nan_bits(), 1;
-    if (one_in(2)) return words[below(2)] = nan_bits(), 1;
+    if (made->row == COLOUR_CALC) return words[2 + below(4)] = nan, 1;
+    if (one_in(2)) return words[below(2)] = nan, 1;
     uint32_t first = words[0]; /* the wrong way round, unless they are equal */
     words[0] = words[1], words[1] = first;
     return 1;
@@ -1126,7 +1136,8 @@ void generate_file(struct capture_file *f, const struct capture *c, uint64_t see
     put_trailer(f, &t);
     if (kind == 5) resize(f, &t);
     if (kind == 3) f->len = one_in(4) ? 39 : one_in(3) ? 0 : one_in(2) ? below(40) : FILE_MOST - (one_in(2) ? 199 : below(200));
-    if (kind == 2) f->bytes[f->len - 1 - below(f->len < 60 ? (uint32_t)f->len : 60)] ^= (uint8_t)(1u << below(8));
+    uint8_t bit = (uint8_t)(1u << below(8));
+    if (kind == 2) f->bytes[f->len - 1 - below(f->len < 60 ? (uint32_t)f->len : 60)] ^= bit;
     f->batch_room = file_room(batch, short_of & 1);
     f->state_room = file_room(state, short_of >> 1);
 }

@@ -19,6 +19,8 @@ struct room {
 };
 static struct room records, batch_room, state_room;
 
+static uint64_t asked; /* calls so far */
+
 struct lungevati_answer last_answer;
 const uint32_t *const last_records = records.other + GUARD;
 
@@ -149,6 +151,7 @@ static int same_answer(struct lungevati_answer p, struct lungevati_answer o)
 int same_check(const struct capture *c, uint64_t seed, struct tally *t)
 {
     struct dice d;
+    asked++;
     dice_start(&d, seed, 1);
     lend_words(lent_batch, c->batch, c->batch_len, &d);
     lend_words(lent_state, c->state, c->state_len, &d);
@@ -184,6 +187,7 @@ int same_read(const struct capture_file *f, uint64_t seed, struct tally *t)
 {
     struct dice d;
     uint8_t *file = lent_file + seed % 8; /* bytes stand at any address */
+    asked++;
     dice_start(&d, seed, 2);
     for (size_t i = 0; i < f->len; i++) file[i] = f->bytes[i];
     lend_room(&batch_room, f->batch_room, &d);
@@ -261,9 +265,14 @@ static int often_enough(const struct tally *t, uint64_t least)
 }
 
 static uint64_t at_seed, at_case, of_cases;
+static int sweeping;
 
 static void say_case(void)
 {
+    if (sweeping) {
+        printf("in the sweeps, at %lu\n", (unsigned long)asked);
+        return;
+    }
     printf("seed %lu, case %lu; to see it: compare/run %lu %lu %lu\n", (unsigned long)at_seed, (unsigned long)at_case,
            (unsigned long)of_cases, (unsigned long)at_seed, (unsigned long)at_case);
 }
@@ -289,7 +298,10 @@ static int many(uint64_t count, uint64_t seed)
     at_seed = seed, of_cases = count;
     watch();
     alarm(SECONDS);
-    if (!sweep(&swept)) return 1;
+    sweeping = 1;
+    if (!sweep(&swept)) return say_case(), 1;
+    printf("document 01's cases have their answers; %lu small captures and files, tried one by one, agree\n", (unsigned long)asked);
+    sweeping = 0;
     for (at_case = 0; at_case < count; at_case++) {
         alarm(SECONDS);
         if (same_case(seed, at_case, &c, &t)) continue;

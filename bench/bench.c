@@ -1,0 +1,240 @@
+/*
+ * What the proved check costs beside the second opinion, on the same captures in one run.
+ *   bench ROUNDS        instructions of each call, counted by the trap flag, and the least time of ROUNDS short rounds
+ * The instructions are exact, and the same in every run; the times are of this machine (or its emulator) and depend on its mood,
+ * which is why only their ratio is printed, and of the least of many rounds.
+ */
+#include "../compare/checker.h"
+
+/* The kit's compiler comes without headers. */
+int printf(const char *, ...);
+unsigned long strtoul(const char *, char **, int);
+struct timespec { long s, ns; };
+int clock_gettime(int, struct timespec *);
+void (*signal(int, void (*)(int)))(int);
+
+enum { LIMIT = 4096, BUDGET = 65536, CLOCK_MONOTONIC = 1, SIGTRAP = 5 };
+
+static uint32_t batch[LIMIT], state[16], records[BUDGET];
+static size_t batch_len;
+
+/* ---- Captures: document 01's windows, and a state window with a colour state and a depth range ---- */
+
+static const uint64_t BATCH_AT = 0x100000, STATE_AT = 0x200000, SCRATCH_AT = 0x300000;
+enum { SCRATCH_LEN = 4096, STATE_LEN = 16 };
+
+static void put(const uint32_t *words, size_t count)
+{
+    for (size_t i = 0; i < count; i++) batch[batch_len++] = words[i];
+}
+
+#define PUT(...)                                   \
+    do {                                           \
+        const uint32_t put_words[] = {__VA_ARGS__}; \
+        put(put_words, sizeof put_words / 4);      \
+    } while (0)
+
+static void put_end(void) { PUT(0x05000000); }
+
+/* Groups with other values in each, as real ones have. */
+static void put_elements(uint32_t n)
+{
+    static const uint32_t formats[] = {0x000, 0x040, 0x085, 0x0C7, 0x10A, 0x143, 0x19C, 0x1BA};
+    PUT(0x78090000 | (2 * n - 1));
+    for (uint32_t i = 0; i < n; i++)
+        PUT(i % 33 << 26 | 1u << 25 | formats[i % 8] << 16 | i * 8, i % 2 ? 0x11130000 : 0x11110000);
+}
+
+static void put_buffers(uint32_t n)
+{
+    PUT(0x78080000 | (4 * n - 1));
+    for (uint32_t i = 0; i < n; i++) PUT(i << 26 | 0x4000 | 16 * i, (uint32_t)SCRATCH_AT + 64 * i, 0, 64);
+}
+
+static void put_registers(uint32_t n)
+{
+    PUT(0x11000000 | (2 * n - 1));
+    for (uint32_t i = 0; i < n; i++) PUT(i % 3 ? 0x2600 + 4 * (i % 32) : 0x2430, i);
+}
+
+static void put_base(void) { PUT(0x6101000E, 1, 0, 0, 1, 0, (uint32_t)STATE_AT | 1, 0, 1, 0, 1, 0, 1, 1, 1, 1); }
+
+/* What a frame's worth of commands looks like: every row that goes on by its length, some with few groups. */
+static void put_frame(void)
+{
+    PUT(0x69040000);
+    put_base();
+    PUT(0x7A000004, 0x00101001, 0, 0, 0, 0);
+    put_registers(3);
+    put_buffers(2);
+    put_elements(3);
+    PUT(0x780A0003, 0x100, (uint32_t)SCRATCH_AT + 256, 0, 128);
+    PUT(0x784B0000, 4);
+    PUT(0x78230000, 32);
+    PUT(0x780E0000, 1);
+    PUT(0x7B000005, 4, 3, 0, 1, 0, 0);
+    PUT(0x10000002, (uint32_t)SCRATCH_AT + 4, 0, 7);
+    PUT(0x10200003, (uint32_t)SCRATCH_AT + 8, 0, 7, 8);
+    PUT(0x12000002, 0x2408, (uint32_t)SCRATCH_AT + 16, 0);
+    PUT(0x14800002, 0x2430, (uint32_t)STATE_AT, 0);
+    PUT(0x7A000004, 0x00004010, (uint32_t)SCRATCH_AT + 24, 0, 1, 0);
+    PUT(0);
+}
+
+static void make_mixed(void)
+{
+    while (batch_len + 128 < LIMIT) put_frame();
+    while (batch_len < LIMIT - 1) PUT(0);
+    put_end();
+}
+
+static void make_noops(void)
+{
+    while (batch_len < LIMIT - 1) PUT(0);
+    put_end();
+}
+
+static void make_elements(void)
+{
+    while (batch_len + 69 < LIMIT) put_elements(34);
+    put_end();
+}
+
+static void make_buffers(void)
+{
+    while (batch_len + 133 < LIMIT) put_buffers(33);
+    put_end();
+}
+
+static void make_registers(void)
+{
+    while (batch_len + 129 < LIMIT) put_registers(64);
+    put_end();
+}
+
+static void make_small(void)
+{
+    PUT(0);
+    put_end();
+}
+
+/* A store and a jump back to it, until the budget is spent. */
+static void make_loop(void)
+{
+    PUT(0, 0x10000002, (uint32_t)SCRATCH_AT + 4, 0, 7, 0x18800101, (uint32_t)BATCH_AT, 0);
+}
+
+static const struct {
+    const char *name;
+    void (*make)(void);
+} captures[] = {
+    {"mixed rows", make_mixed},      {"no-ops", make_noops}, {"vertex elements", make_elements}, {"vertex buffers", make_buffers},
+    {"register pairs", make_registers}, {"small", make_small},  {"loop", make_loop},
+};
+
+/* ---- Calls ---- */
+
+typedef struct lungevati_answer check_call(const uint32_t *, size_t, uint64_t, const uint32_t *, size_t, uint64_t,
+                                           uint64_t, uint32_t, uint32_t *, size_t);
+
+static volatile uint32_t sink;
+
+static struct lungevati_answer ask(check_call *check)
+{
+    return check(batch, batch_len, BATCH_AT, state, STATE_LEN, STATE_AT, SCRATCH_AT, SCRATCH_LEN, records, BUDGET);
+}
+
+/* The processor, or the emulator, raises a signal after each instruction while the trap flag is set. */
+static volatile uint64_t steps;
+static void step(int number)
+{
+    (void)number;
+    steps++;
+}
+
+/* Not inlined, and through a pointer that the compiler does not know: or each call would get a shape of its own. */
+static __attribute__((noinline)) uint64_t counted(check_call *volatile check)
+{
+    sink = ask(check).reason; /* once before, so that nothing is counted that only a first call does */
+    steps = 0;
+    __asm__ volatile("pushfq; orq $0x100, (%%rsp); popfq" ::: "memory", "cc");
+    sink = ask(check).reason;
+    __asm__ volatile("pushfq; andq $~0x100, (%%rsp); popfq" ::: "memory", "cc");
+    return steps;
+}
+
+/* A single instruction, so that all that is counted beside the call itself can be taken off. */
+struct lungevati_answer only_return(const uint32_t *, size_t, uint64_t, const uint32_t *, size_t, uint64_t, uint64_t,
+                                    uint32_t, uint32_t *, size_t);
+__asm__(".text\nonly_return: ret\n");
+
+static uint64_t instructions(check_call *check) { return counted(check) - counted(only_return) + 1; }
+
+static double now(void)
+{
+    struct timespec t;
+    clock_gettime(CLOCK_MONOTONIC, &t);
+    return (double)t.s * 1e9 + (double)t.ns;
+}
+
+static double timed(check_call *check, int calls)
+{
+    double from = now();
+    for (int i = 0; i < calls; i++) sink = ask(check).reason;
+    return (now() - from) / calls;
+}
+
+/* The least of many rounds, each shorter than what another process takes at a time; the two in turn, either one first. */
+static double time_ratio(uint64_t rounds, double *proved)
+{
+    double least[2] = {1e30, 1e30};
+    int calls = 1;
+    while (timed(lungevati_check, calls) * calls < 2e5 && calls < 1 << 20) calls *= 2;
+    for (uint64_t k = 0; k < 2 * rounds; k++) {
+        int which = (int)((k + k / 2) % 2);
+        double t = timed(which ? other_check : lungevati_check, calls);
+        if (t < least[which]) least[which] = t;
+    }
+    *proved = least[0];
+    return least[0] / least[1];
+}
+
+/* ---- The table ---- */
+
+static int same_answers(const char *name, uint64_t *count, uint64_t *dwords)
+{
+    struct lungevati_answer p = ask(lungevati_check), o = ask(other_check);
+    *count = o.count;
+    *dwords = 0;
+    for (uint32_t i = 0; i < o.count; i++) *dwords += records[i] >> 16 & 0xFF;
+    if (p.reason == o.reason && p.window == o.window && p.index == o.index && p.count == o.count && o.count > 0) return 1;
+    printf("%s: proved %u %u %u %u, C %u %u %u %u\n", name, p.reason, p.window, p.index, p.count, o.reason, o.window,
+           o.index, o.count);
+    return 0;
+}
+
+static int measure(const char *name, void (*make)(void), uint64_t rounds)
+{
+    uint64_t count, dwords;
+    double proved_time, ratio;
+    batch_len = 0;
+    make();
+    if (!same_answers(name, &count, &dwords)) return 0;
+    double p = (double)instructions(lungevati_check), c = (double)instructions(other_check);
+    double n = (double)count, d = (double)dwords;
+    ratio = time_ratio(rounds, &proved_time);
+    printf("%-16s %8.0f %7.0f | %9.0f %9.0f %6.3f | %8.2f %8.2f | %7.2f %7.2f | %6.3f %10.0f\n", name, n, d, p, c, p / c,
+           p / n, c / n, p / d, c / d, ratio, proved_time);
+    return 1;
+}
+
+int main(int n, char **v)
+{
+    uint64_t rounds = n == 2 ? strtoul(v[1], 0, 10) : 200;
+    signal(SIGTRAP, step);
+    printf("                                  |    instructions a call     |    a command      |     a dword     |  least time\n");
+    printf("capture          commands  dwords |    proved         C  ratio |   proved        C |  proved       C |  ratio  proved ns\n");
+    for (uint32_t i = 0; i < sizeof captures / sizeof captures[0]; i++)
+        if (!measure(captures[i].name, captures[i].make, rounds)) return 1;
+    return 0;
+}
