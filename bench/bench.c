@@ -1,8 +1,9 @@
 /*
  * What the proved check costs beside the second opinion, on the same captures in one run.
- *   bench ROUNDS        instructions of each call, counted by the trap flag, and the least time of ROUNDS short rounds
- * The instructions are exact, and the same in every run; the times are of this machine (or its emulator) and depend on its mood,
- * which is why only their ratio is printed, and of the least of many rounds.
+ *   bench ROUNDS ROOM        instructions of each call, counted by the trap flag, and the least time of ROUNDS short rounds;
+ *                            ROOM is for how many records: it cuts the loop short, and nothing else if it is at least 4,096
+ * The instructions are exact, and the same in every run. The times are of this machine, or its emulator, and of its mood: hence
+ * the least of many rounds, and the ratio.
  */
 #include "../compare/checker.h"
 
@@ -16,7 +17,7 @@ void (*signal(int, void (*)(int)))(int);
 enum { LIMIT = 4096, BUDGET = 65536, CLOCK_MONOTONIC = 1, SIGTRAP = 5 };
 
 static uint32_t batch[LIMIT], state[16], records[BUDGET];
-static size_t batch_len;
+static size_t batch_len, room;
 
 /* ---- Captures: document 01's windows, and a state window with a colour state and a depth range ---- */
 
@@ -54,7 +55,7 @@ static void put_buffers(uint32_t n)
 static void put_registers(uint32_t n)
 {
     PUT(0x11000000 | (2 * n - 1));
-    for (uint32_t i = 0; i < n; i++) PUT(i % 3 ? 0x2600 + 4 * (i % 32) : 0x2430, i);
+    for (uint32_t i = 0; i < n; i++) PUT(i % 2 ? 0x2600 + 4 * (i % 32) : 0x2430, i);
 }
 
 static void put_base(void) { PUT(0x6101000E, 1, 0, 0, 1, 0, (uint32_t)STATE_AT | 1, 0, 1, 0, 1, 0, 1, 1, 1, 1); }
@@ -141,7 +142,7 @@ static volatile uint32_t sink;
 
 static struct lungevati_answer ask(check_call *check)
 {
-    return check(batch, batch_len, BATCH_AT, state, STATE_LEN, STATE_AT, SCRATCH_AT, SCRATCH_LEN, records, BUDGET);
+    return check(batch, batch_len, BATCH_AT, state, STATE_LEN, STATE_AT, SCRATCH_AT, SCRATCH_LEN, records, room);
 }
 
 /* The processor, or the emulator, raises a signal after each instruction while the trap flag is set. */
@@ -230,10 +231,14 @@ static int measure(const char *name, void (*make)(void), uint64_t rounds)
 
 int main(int n, char **v)
 {
-    uint64_t rounds = n == 2 ? strtoul(v[1], 0, 10) : 200;
+    if (n != 3) return printf("usage: bench ROUNDS ROOM\n"), 2;
+    uint64_t rounds = strtoul(v[1], 0, 10);
+    room = strtoul(v[2], 0, 10);
+    if (room > BUDGET) room = BUDGET;
     signal(SIGTRAP, step);
-    printf("                                  |    instructions a call     |    a command      |     a dword     |  least time\n");
-    printf("capture          commands  dwords |    proved         C  ratio |   proved        C |  proved       C |  ratio  proved ns\n");
+    printf("%33s |    instructions a call     |    a command      |     a dword     |  least time\n", "");
+    printf("%-16s commands  dwords |    proved         C  ratio |   proved        C |  proved       C |  ratio  proved ns\n",
+           "capture");
     for (uint32_t i = 0; i < sizeof captures / sizeof captures[0]; i++)
         if (!measure(captures[i].name, captures[i].make, rounds)) return 1;
     return 0;

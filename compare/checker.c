@@ -322,7 +322,7 @@ static APART verdict base_address(const struct windows *w, const uint32_t *cmd)
     return shaped(s, w, cmd) ? good_shape(s) : why_not(s, w, cmd);
 }
 
-/* A buffer that is not null and whose address is to be taken lies in one window. */
+/* With bit 13 clear, bit 14 set and any bytes at all, these lie in one window. */
 static inline int range_good(const struct windows *w, const uint32_t *group)
 {
     return (group[0] & 0x6000) != 0x4000 || group[3] == 0 || in_any(w, address_of(group + 1), group[3]);

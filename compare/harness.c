@@ -300,7 +300,8 @@ static int many(uint64_t count, uint64_t seed)
     alarm(SECONDS);
     sweeping = 1;
     if (!sweep(&swept)) return say_case(), 1;
-    printf("document 01's cases have their answers; %lu small captures and files, tried one by one, agree\n", (unsigned long)asked);
+    printf("document 01's cases have their answers; %lu small captures and files, tried one by one, agree\n",
+           (unsigned long)asked);
     sweeping = 0;
     for (at_case = 0; at_case < count; at_case++) {
         alarm(SECONDS);

@@ -1,3 +1,4 @@
+# shellcheck shell=sh
 # To be sourced, with $top set to the repository: finds the kit that `rt` belongs to, and compiles, links and runs C for
 # x86-64 with nothing else. The same on x86-64 and on Arm, where the kit has an emulator.
 kit_find() {
@@ -33,15 +34,14 @@ kit_run() {
     $kit_emulator "$kit_tools/lib/ld-linux-x86-64.so.2" --library-path "$kit_tools/lib" "$@"
 }
 
-# kit_archive: proves and builds the library with the calls of include/lungevati.h, and sets $archive
+# kit_archive LOG: proves and builds the library with the calls of include/lungevati.h, target/staticlib/libapi.a
 kit_archive() {
-    archive=$top/target/staticlib/libapi.a
-    (cd "$top" && rt staticlib api) >"$out/staticlib.log" 2>&1 || { cat "$out/staticlib.log" >&2; exit 2; }
+    (cd "${top:?}" && rt staticlib api) >"$1" 2>&1 || { cat "$1" >&2; exit 2; }
 }
 
 # kit_self OBJECT [FLAG...]: the second opinion itself under the names of the proved calls
 kit_self() {
     kit_object=$1
     shift
-    kit_compile "$kit_object" "$top/compare/checker.c" -Dother_check=lungevati_check -Dother_read=lungevati_read "$@"
+    kit_compile "$kit_object" "${top:?}/compare/checker.c" -Dother_check=lungevati_check -Dother_read=lungevati_read "$@"
 }
