@@ -20,7 +20,7 @@ fn put_reason(line: &mut [u8; 4608], at: usize, reason: u32) -> usize
         3 => put(line, at, b"a window ends above 2^48"),
         4 => put(line, at, b"two windows share a byte"),
         5 => put(line, at, b"65,536 commands did not end the run"),
-        6 => put(line, at, b"no command ends the run before it"),
+        6 => put(line, at, b"the run has not ended there"),
         7 => put(line, at, b"no known command starts so"),
         8 => put(line, at, b"the command cannot have this length"),
         9 => put(line, at, b"the command goes past the end of the batch"),
@@ -49,7 +49,7 @@ fn put_reason(line: &mut [u8; 4608], at: usize, reason: u32) -> usize
         20 => put(
             line,
             at,
-            b"the length of the file is not what its trailer says",
+            b"the length of the file and its trailer do not agree",
         ),
         21 => put(line, at, b"a lent buffer is too short"),
         _ => put(line, at, b"there is no such reason"),
