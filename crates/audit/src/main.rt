@@ -1,0 +1,160 @@
+// A line in plain words for each capture that an argument names, and last the totals.
+ghost use Prim.Native.Nat.{_≤_};
+ghost use lib.ListN.{length};
+use files::ACCEPTED;
+use files::MOST_BYTES;
+use files::REFUSED;
+use files::UNREAD;
+use files::worse;
+use libc::STDOUT_FILENO;
+use line::put;
+use line::put_number;
+use rules::Answer;
+use std::num::wrapping_add_u64;
+use words::put_accepted;
+use words::put_refused;
+use words::put_unread;
+
+mod line;
+mod words;
+
+// The answer for a capture, and the dword at its place.
+struct Finding {
+    answer: Answer,
+    dword: u32,
+}
+
+// The status of a file, and whether its line was written.
+struct Told {
+    status: u8,
+    written: bool,
+}
+
+struct Totals {
+    accepted: u64,
+    refused: u64,
+    unread: u64,
+    worst: u8,
+}
+
+// Where there is no dword, 0 stands for it, and no line shows it.
+fn dword_at(words: &[u32], index: u32) -> u32 {
+    let at = index as usize;
+    if at < words.len() { words[at] } else { 0 }
+}
+
+fn look(file: &[u8]) -> Finding {
+    let mut batch = [0u32; 4096];
+    let mut state = [0u32; 4096];
+    let mut records = [0u32; 4096];
+    let answer = capture::judge(file, &mut batch, &mut state, &mut records);
+    let dword = if answer.window == 0 {
+        dword_at(&batch, answer.index)
+    } else {
+        dword_at(&state, answer.index)
+    };
+    Finding { answer, dword }
+}
+
+// A line is written whole, so that the lines of audits that run side by side do not mix.
+fn write_front(line: &[u8], end: usize) -> bool
+    requires { ⌜ end ≤ length (now line) ⌝ }
+{
+    io::write_all(STDOUT_FILENO, &line[..end])
+}
+
+fn write_line(line: &mut [u8; 4608], at: usize) -> bool
+    requires { ⌜ at ≤ 4608 ⌝ }
+{
+    let end = put(line, at, b"\n");
+    write_front(line, end)
+}
+
+fn tell(line: &mut [u8; 4608], at: usize, status: u8) -> Told
+    requires { ⌜ at ≤ 4608 ⌝ }
+{
+    Told {
+        status,
+        written: write_line(line, at),
+    }
+}
+
+fn audit_file(name: &mut [u8]) -> Told {
+    let mut bytes = [0u8; MOST_BYTES];
+    let mut line = [0u8; 4608];
+    let got = files::read_named(name, &mut bytes);
+    files::plain(name);
+    let colon = put(&mut line, 0, name);
+    let said = put(&mut line, colon, b": ");
+    if !got.whole {
+        let end = put_unread(&mut line, said, got.error);
+        return tell(&mut line, end, UNREAD);
+    }
+    let n = got.count;
+    let found = look(&bytes[..n]);
+    let answer = found.answer;
+    if answer.reason == 0 {
+        let end = put_accepted(&mut line, said, answer.count);
+        return tell(&mut line, end, ACCEPTED);
+    }
+    let end = put_refused(&mut line, said, answer, found.dword);
+    tell(&mut line, end, REFUSED)
+}
+
+fn audit_argument(i: usize) -> Told {
+    let mut name = io::buffer();
+    let n = files::argument(i, &mut name);
+    audit_file(&mut name[..n])
+}
+
+fn one_if(is_so: bool) -> u64 {
+    if is_so { 1 } else { 0 }
+}
+
+// The totals with one file more. No run has so many files that a total wraps.
+fn counted(t: Totals, told: Told) -> Totals {
+    let status = told.status;
+    let lost = if told.written { ACCEPTED } else { UNREAD };
+    Totals {
+        accepted: wrapping_add_u64(t.accepted, one_if(status == ACCEPTED)),
+        refused: wrapping_add_u64(t.refused, one_if(status == REFUSED)),
+        unread: wrapping_add_u64(t.unread, one_if(status == UNREAD)),
+        worst: worse(worse(t.worst, status), lost),
+    }
+}
+
+fn audit_arguments(count: usize) -> Totals {
+    let mut totals = Totals {
+        accepted: 0,
+        refused: 0,
+        unread: 0,
+        worst: ACCEPTED,
+    };
+    let mut i = 1;
+    while i < count {
+        totals = counted(totals, audit_argument(i));
+        i += 1;
+    }
+    totals
+}
+
+fn write_totals(t: Totals) -> bool {
+    let mut line = [0u8; 4608];
+    let accepted = put_number(&mut line, 0, t.accepted);
+    let refused = put(&mut line, accepted, b" accepted, ");
+    let behind = put_number(&mut line, refused, t.refused);
+    let unread = put(&mut line, behind, b" refused, ");
+    let word = put_number(&mut line, unread, t.unread);
+    let end = put(&mut line, word, b" unread");
+    write_line(&mut line, end)
+}
+
+fn main() {
+    let totals = audit_arguments(os::arg_count());
+    let status = if write_totals(totals) {
+        totals.worst
+    } else {
+        UNREAD
+    };
+    files::tell(status);
+}
