@@ -16,6 +16,7 @@ use words::put_refused;
 use words::put_unread;
 
 mod line;
+mod reasons;
 mod words;
 
 // The answer for a capture, and the dword at its place.
