@@ -7,17 +7,13 @@ use files::REFUSED;
 use files::UNREAD;
 use files::worse;
 use libc::STDOUT_FILENO;
-use line::put;
-use line::put_number;
 use rules::Answer;
+use sentences::line::put;
+use sentences::line::put_number;
+use sentences::words::put_accepted;
+use sentences::words::put_refused;
+use sentences::words::put_unread;
 use std::num::wrapping_add_u64;
-use words::put_accepted;
-use words::put_refused;
-use words::put_unread;
-
-mod line;
-mod reasons;
-mod words;
 
 // The answer for a capture, and the dword at its place.
 struct Finding {

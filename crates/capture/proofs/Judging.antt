@@ -9,9 +9,9 @@ use Rattle.rules.specs.declared.Contents.{Contents}
 use Rattle.rules.specs.declared.Opened.{Opened}
 use Rattle.rules.specs.declared.Opened.the-variants.{Holds, NotRead}
 use Rattle.rules.specs.declared.Reason.{Reason}
-use Rattle.rules.specs.Walk.{Run, answerOf, commandsOf, endOf}
-use Rattle.rules.specs.Records.{Checked, wordsOf, writtenOf, roomOf}
-use Rattle.rules.specs.File.{trailerOf, captureOf, openedOf, openedVerdict, openedAnswer, fileRun, FileRead, Judged}
+use Rattle.rules.specs.Walk.{answerOf, commandsOf, endOf}
+use Rattle.rules.specs.Records.{Checked, wordsOf, writtenOf}
+use Rattle.rules.specs.File.{trailerOf, captureOf, openedVerdict, openedAnswer, fileRun, FileRead, Judged}
 use Rattle.walk.specs.Lent as lent
 use Rattle.capture.proofs.Reading.{held, parts}
 

@@ -1,6 +1,5 @@
 // Prints document 01's printout of each capture that an argument names, or of the one on standard input.
 use files::ACCEPTED;
-use files::Got;
 use files::MOST_BYTES;
 use files::REFUSED;
 use files::UNREAD;

@@ -1,7 +1,6 @@
 -- `read_to_end` meets its contract: what it has read lies within the room. The measure is what is left of the room.
 -- Assumes nothing.
 use Prim.Native.Nat.{_≤_, _-_}
-use native.Mathlib.Omega.{arith}
 use mathlib.Core.Path.{_≡_}
 use lib.ListN.{length}
 use borrow.Author.Needs.{needs}

@@ -5,8 +5,8 @@ use lib.ListN.{length}
 use native.Mathlib.Omega.{arith}
 use borrow.Author.Tests.{ltb-true}
 use borrow.Author.Needs.{needs}
-use Rattle.audit.proofs.line.put.Statement.{statement}
-use Rattle.audit.proofs.line.put.Tie as tie
+use Rattle.sentences.proofs.line.put.Statement.{statement}
+use Rattle.sentences.proofs.line.put.Tie as tie
 
 abbrev Inv-loop : tie.InvT-loop
 Inv-loop line₀ at text to₀ i₀ line to i = to ≤ 4608

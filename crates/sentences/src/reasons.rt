@@ -1,4 +1,4 @@
-// The table of words: what each of document 01's numbers means. It has three parts, since the check of a match grows with the square of its arms.
+// The table of words: what each of document 01's numbers means. It has three parts, since the check of one match with 22 arms takes more than three times as long.
 ghost use Prim.Native.Nat.{_≤_};
 use crate::line::put;
 
