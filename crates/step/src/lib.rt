@@ -39,6 +39,7 @@ fn refused(reason: Reason, index: usize) -> Outcome
     })
 }
 
+// One step of the walk: the first fault of the command at the cursor (6 to 17), or the command and where it leads.
 pub fn step<'a>(
     batch: &'a [u32],
     state: &'a [u32],
