@@ -13,17 +13,12 @@ use Rattle.rules.specs.declared.Verdict.{Verdict}
 use Rattle.rules.specs.declared.Verdict.the-variants.{Pass, Fails}
 use Rattle.rules.specs.Refusals.{firstFault}
 use Rattle.rules.specs.Structures.{Asked, askedAt, single, structureChecks, valuesOf, readingOf, readAt, verdictOf, floatsOf}
+use Rattle.rules.proofs.Readings.{reading-says}
 
 -- the floats of a structure: both depths, or the four of the blend constant
 pub floatsIn : Kind → List ℕ → List Float
 floatsIn Viewport d = single (getD d 0 0) ∷ single (getD d 1 0) ∷ []
 floatsIn ColourCalc d = single (getD d 2 0) ∷ single (getD d 3 0) ∷ single (getD d 4 0) ∷ single (getD d 5 0) ∷ []
-
-says : (v : Verdict) (kind : Kind) (d : List ℕ) → verdictOf (readingOf v kind d) ≡ v
-unfolding verdictOf
-says Pass Viewport d = refl
-says Pass ColourCalc d = refl
-says (Fails f) kind d = refl
 
 gives : (v : Verdict) (kind : Kind) (d : List ℕ) → v ≡ Pass → floatsOf (readingOf v kind d) ≡ floatsIn kind d
 unfolding floatsOf floatsIn
@@ -37,7 +32,7 @@ module _ (batch : List ℕ) (batchAt : ℕ) (state : List ℕ) (stateAt : ℕ) (
   -- a read is refused with the first fault of 15, 16 and 17, in that order
   pub read-says : verdictOf r ≡ firstFault structureChecks asked
   unfolding readAt
-  read-says = ap verdictOf p ∙ says _ kind _
+  read-says = ap verdictOf p ∙ reading-says _ kind _
 
   -- and otherwise gives the structure's floats
   pub read-gives : firstFault structureChecks asked ≡ Pass → floatsOf r ≡ floatsIn kind (asked .dwords)

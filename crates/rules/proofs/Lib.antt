@@ -12,3 +12,4 @@ pub mod Depths
 pub mod Unique
 pub mod Places
 pub mod Recording
+pub mod Readings

@@ -87,6 +87,14 @@ module _ {A : Type 0} (a : A) where
   tried-append (check ∷ checks) more Pass = tried-append checks more (check a)
   tried-append (check ∷ checks) more (Fails f) = sym (stays-failed more f a)
 
+-- the other way: the fault of a check that fails where all before it pass is the first
+pub fails-first : {A : Type 0} (before : List (A → Verdict)) (check : A → Verdict) (after : List (A → Verdict)) (a : A) {f : Fault}
+    → AllPass before a → check a ≡ Fails f → Fails f ≡ firstFault (before ++ (check ∷ after)) a
+unfolding tried
+fails-first [] check after a {f} p e = sym (ap (λ v. tried after v a) e ∙ stays-failed after f a)
+fails-first (b ∷ before) check after a p e =
+    fails-first before check after a (p .1) e ∙ sym (ap (λ v. tried (before ++ (check ∷ after)) v a) (p .0))
+
 -- a check with one place passes exactly where its condition does not hold
 pub refuse-passes : (given : Bool) (f : Fault) → refuseIf given f ≡ Pass → given ≡ false
 refuse-passes true f e = absurd (fails-not-pass e)

@@ -13,15 +13,16 @@ use Rattle.rules.specs.Windows.{fits}
 use Rattle.rules.specs.Commands.{spot}
 use Rattle.rules.specs.Values.{eightBytes, postSync}
 
--- A use is asked of each dword of a command: the command's dwords, the dword's own number, and which dword of its group it is. It answers
--- whether an address that the command uses has its low dword there.
+-- "Address rules (13)", place "its low dword": a use is asked of each dword of a command. It is given the command's dwords, the dword's own number,
+-- and which dword of its group it is, and answers whether an address that the command uses has its low dword there.
 abbrev pub Uses : Type 0
 Uses = List ℕ → ℕ → ℕ → Access
 
+-- "Address rules (13)" names no address of rows 0, 1, 3, 8, 9, 11 and 13 to 16
 abbrev pub noUse : Uses
 noUse d k j = Unused
 
--- the low dword is dword `low` of its group
+-- "its low dword": it is the dword `low` of its group
 abbrev pub lowAt : ℕ → ℕ → Access → Access
 lowAt low j a = cond (eqb j low) a Unused
 
@@ -58,7 +59,7 @@ vertexBufferUse d k j =
 abbrev pub indexBufferUse : Uses
 indexBufferUse d k j = lowAt 2 j (sized (getD d (k + 2) 0))
 
--- the uses by row
+-- "Address rules (13)", by row
 unfoldable pub usesByRow : List Uses
 usesByRow =
     -- 0 MI_NOOP, 1 MI_BATCH_BUFFER_END, 2 MI_BATCH_BUFFER_START
@@ -72,10 +73,11 @@ usesByRow =
     -- 13 to 16 use none
     ∷ noUse ∷ noUse ∷ noUse ∷ noUse ∷ []
 
+-- "row 2 target", "row 6": the uses of a row
 unfoldable pub accessOf : ℕ → Uses
 accessOf r = getD usesByRow r noUse
 
--- the address that the command uses with its low dword at k, if it does
+-- "its low dword": the address that the command uses with its low dword at k, if it does
 unfoldable pub accessAt : ℕ → List ℕ → ℕ → Access
 accessAt r dwords k = accessOf r dwords k (spot r k)
 
@@ -83,6 +85,7 @@ accessAt r dwords k = accessOf r dwords k (spot r k)
 unfoldable pub addressAt : List ℕ → ℕ → ℕ
 addressAt dwords k = getD dwords k 0 + 2 ^ 32 * getD dwords (k + 1) 0
 
+-- "an address range does not fit": one that is used
 abbrev pub accessWrong : Windows → ℕ → Access → Bool
 accessWrong windows address Unused = false
 accessWrong windows address (Reaches bytes allowed) = not (fits windows allowed address bytes)

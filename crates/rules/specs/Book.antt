@@ -13,6 +13,7 @@ use Rattle.rules.specs.Step.{dwordsAt, pointerOf, budgetSpent, ranOff, u
 use Rattle.rules.specs.Walk.{trace, cut, walk, commandsOf, endOf, answerWith, answerOf}
 use Rattle.rules.specs.Records.{recordOf, wordsOf, writtenOf}
 
+-- no sentence of its own: all of document 01 up to "Capture file and printout", for whoever computes
 unfoldable pub book : ℕ
 unfolding ofBits nanBits le allowed some someTwo firstFrom inGroup numberOf tried windowsOf countsWrong windowChecks windowFault holds windowsAllowed fits holdsDwords heldAt partOf rows rowCount theRow keyOf rowFrom rowOf lengthOf groupSize lengthRight masksOf allowedAt bitWrong surfaceFormats formatBits knownTopology knownRegister componentsWrong valueRules ruleOf valueWrong usesByRow accessOf accessAt addressAt rangeWrong layoutOf structureBitWrong depthWrong colourWrong structureValueWrong structureNowhere structureBit structureValue structureChecks readAt verdictOf dwordsAt pointerOf budgetSpent ranOff unknownHeader wrongLength pastTheWindow bitNotAllowed nestedStart valueBroken rangeOutside baseNeverSet recordsFull stepChecks checks afterEnd baseAfter moveOf commandAt stepOf trace cut walk commandsOf endOf answerWith answerOf recordOf wordsOf writtenOf
 book = 0

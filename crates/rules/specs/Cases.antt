@@ -12,7 +12,7 @@ use Rattle.rules.specs.Walk.{Run, walk, answerOf}
 use Rattle.rules.specs.Records.{writtenOf, roomOf}
 use Rattle.rules.specs.Book.{book}
 
--- a case: its number, the batch, what the record buffer held, the answer, and the records
+-- the table of "Cases": the number, "Batch", what the record buffer held, and "Answer" with its records
 pub record Case : Type 0 where
   pub number : ℕ
   pub batch : List ℕ
@@ -36,11 +36,12 @@ ample = 0xEEEEE001 ∷ 0xEEEEE002 ∷ 0xEEEEE003 ∷ 0xEEEEE004 ∷ 0xEEEEE005 �
 abbrev pub four : List ℕ
 four = 0xEEEEE001 ∷ 0xEEEEE002 ∷ 0xEEEEE003 ∷ 0xEEEEE004 ∷ []
 
+-- a line of the table, "C", "Batch", "Answer"; every case has its place in window 0
 abbrev case : ℕ → List ℕ → List ℕ → ℕ → ℕ → ℕ → List ℕ → Case
 case number batch before reason index count records =
     record { number = number; batch = batch; before = before; reason = reason; window = 0; index = index; count = count; records = records }
 
--- the table; every case has its place in window 0
+-- the table of "Cases", with the values that it leaves to the rules: the place 0 where none is said, and the records
 unfoldable pub cases : List Case
 cases =
     case 1 [] ample 1 0 0 []
@@ -57,33 +58,36 @@ cases =
     ∷ case 12 (0x7B000405 ∷ 0x00000200 ∷ 0 ∷ 0 ∷ 0 ∷ 0 ∷ 0 ∷ []) ample 12 1 0 []
     ∷ []
 
--- two lists of words are the same, to the last word
+-- "records", "every untouched word": two lists of words are the same, to the last word
 abbrev pub sameWords : List ℕ → List ℕ → Bool
 sameWords [] [] = true
 sameWords [] (y ∷ ys) = false
 sameWords (x ∷ xs) [] = false
 sameWords (x ∷ xs) (y ∷ ys) = eqb x y && sameWords xs ys
 
+-- "Answer": reason, window, index and count
 abbrev pub sameAnswer : Answer → Case → Bool
 sameAnswer a k = (eqb (a .reason) (k .reason) && eqb (a .window) (k .window)) && (eqb (a .index) (k .index) && eqb (a .count) (k .count))
 
--- the walk gives the case: its answer, its records, and the untouched rest
+-- "Each public call is promised completely: answer, records and every untouched word": the walk gives the case all of it
 abbrev pub gives : Run → Case → Bool
 gives run k = sameAnswer (answerOf run) k && sameWords (writtenOf run (k .before)) (k .records ++ drop (k .count) (k .before))
 
+-- "ample room unless said": the walk of a case
 abbrev pub runOf : Case → Run
 runOf k = walk Unset (captureOf (k .batch)) (roomOf (length (k .before)))
 
+-- "proved once over a table of them": a case that is not given is named
 abbrev pub namedIf : Bool → ℕ → List ℕ → List ℕ
 namedIf true number rest = rest
 namedIf false number rest = number ∷ rest
 
--- the numbers of the cases that the walk does not give
+-- "proved once over a table of them": the numbers of the cases that the walk does not give
 abbrev pub failing : List Case → List ℕ
 failing [] = []
 failing (k ∷ ks) = namedIf (gives (runOf k) k) (k .number) (failing ks)
 
--- C1 to C12 hold
+-- "Marked C, .. and proved once over a table of them"
 pub cases-hold : failing cases ≡ []
 unfolding cases book
 cases-hold = refl

@@ -6,7 +6,7 @@ use lib.ListN.{length, getD}
 use lib.Dec.{leb, eqb}
 use Rattle.rules.specs.Words.{bit, field, cleared, allowed, inGroup}
 
--- how many dwords a command has, by the header's bits 7:0
+-- the table's column "Header", what it says of the length: "the field in bits 7:0"
 pub data Length : Type 0 where
   -- "1 in rows 0, 1 and 8, which have no field"
   one : Length
@@ -24,10 +24,11 @@ pub record Row : Type 0 where
   pub total : Length
   pub masks : List ℕ
 
+-- a line of the table, in the order of its columns "Header" and "Allowed bits, by dword"
 abbrev row : ℕ → ℕ → Length → List ℕ → Row
 row key free total masks = record { key = key; free = free; total = total; masks = masks }
 
--- the header bits high:low
+-- "+ bits 21:0", "+ bits 10:8": the header bits high:low
 abbrev bits : ℕ → ℕ → ℕ
 bits high low = 2 ^ (high + 1) - 2 ^ low
 
@@ -39,7 +40,7 @@ anyDword = 0xFFFFFFFF
 abbrev pub highDword : ℕ
 highDword = 0x0000FFFF
 
--- the table
+-- the table of "Commands": "Row", "Command", "Header", "Allowed bits, by dword"
 unfoldable pub rows : List Row
 rows =
     -- 0 MI_NOOP
@@ -80,15 +81,16 @@ rows =
     ∷ row 0x7B000000 (bits 10 8) (exactly 5) (0x0000033F ∷ anyDword ∷ anyDword ∷ anyDword ∷ anyDword ∷ anyDword ∷ [])
     ∷ []
 
+-- the table's column "Row": how many there are
 unfoldable pub rowCount : ℕ
 unfolding rows
 rowCount = length rows
 
--- a number that is no row has a row that allows nothing
+-- "header not in the table": a number that is no row has a row that allows nothing
 abbrev noRow : Row
 noRow = row 0 0 one []
 
--- what the table says of a row
+-- the table's column "Row": what stands in a row, by its number
 unfoldable pub theRow : ℕ → Row
 unfolding rows
 theRow r = getD rows r noRow
@@ -97,11 +99,12 @@ theRow r = getD rows r noRow
 unfoldable pub keyOf : ℕ → ℕ
 keyOf header = cond (eqb (field header 31 29) 0) (cleared header 23) (cleared header 16)
 
--- the row with a key, or the number of rows where none has it
+-- "is known by": the row with a key, or the number of rows where none has it
 unfoldable pub rowFrom : ℕ → List Row → ℕ
 rowFrom key [] = 0
 rowFrom key (r ∷ rs) = cond (eqb key (r .key)) 0 (suc (rowFrom key rs))
 
+-- "Type 0 is known by bits 28:23, type 3 by 31:16": the row of a header
 unfoldable pub rowOf : ℕ → ℕ
 unfolding rows keyOf rowFrom
 rowOf header = rowFrom (keyOf header) rows
@@ -113,10 +116,11 @@ dwordCount (exactly f) header = field header 7 0 + 2
 dwordCount (byBit b f g) header = field header 7 0 + 2
 dwordCount (groups n) header = field header 7 0 + 2
 
+-- "Total length": of a header in a row
 unfoldable pub lengthOf : ℕ → ℕ → ℕ
 lengthOf r header = dwordCount (theRow r .total) header
 
--- the field is one that the row has; `size` is the dwords of a group
+-- "field 2n-1, n 1..64", "10000002h, or 10200003h": the field is one that the row has; `size` is the dwords of a group
 abbrev pub fieldRight : Length → ℕ → ℕ → Bool
 fieldRight one size header = true
 fieldRight (exactly f) size header = eqb (field header 7 0) f
@@ -124,7 +128,7 @@ fieldRight (byBit b f g) size header = eqb (field header 7 0) (cond (bit header 
 fieldRight (groups n) size header =
     eqb ((field header 7 0 + 1) % size) 0 && (leb 1 ((field header 7 0 + 1) / size) && leb ((field header 7 0 + 1) / size) n)
 
--- the dwords of a group; a row without groups is one group of all its dwords
+-- "repeating groups give one group": how many dwords it has; a row without groups is one group of all its dwords
 unfoldable pub groupSize : ℕ → ℕ
 groupSize r = length (theRow r .masks)
 
@@ -132,15 +136,15 @@ groupSize r = length (theRow r .masks)
 unfoldable pub lengthRight : ℕ → ℕ → Bool
 lengthRight r header = fieldRight (theRow r .total) (groupSize r) header
 
--- the bits 7:0 of a header that has a field
+-- "the field in bits 7:0": these bits, of a header that has a field
 abbrev pub fieldBits : Length → ℕ
 fieldBits one = 0
 fieldBits (exactly f) = 0xFF
 fieldBits (byBit b f g) = 0xFF
 fieldBits (groups n) = 0xFF
 
--- the header's allowed bits: those that it is known by, its free bits and its field, three parts that share no bit. Of the first a header in this row
--- can have no others set than the key's own.
+-- the table's column "Header": the bits that a header may have, which are those that it is known by, its free bits and its field, three parts
+-- that share no bit. Of the first a header in this row can have no others set than the key's own.
 abbrev pub headerMask : Row → ℕ
 headerMask r = r .key + (r .free + fieldBits (r .total))
 
@@ -148,11 +152,12 @@ headerMask r = r .key + (r .free + fieldBits (r .total))
 unfoldable pub masksOf : ℕ → List ℕ
 masksOf r = headerMask (theRow r) ∷ theRow r .masks
 
--- which dword of its group the dword k of a command is, the header being 0
+-- "row number by dword within the command or group": which dword of its group the dword k of a command is, the header being 0
 abbrev pub spot : ℕ → ℕ → ℕ
 spot r k = inGroup (groupSize r) k
 
--- the bits allowed in the dword k of a command. They do not depend on its dwords today; a rule that looks at other dwords would stand here.
+-- "Allowed bits, by dword": those of the dword k of a command. They do not depend on its dwords today; a rule that looks at other dwords would
+-- stand here.
 unfoldable pub allowedAt : ℕ → List ℕ → ℕ → ℕ
 allowedAt r dwords k = getD (masksOf r) (spot r k) 0
 

@@ -21,6 +21,7 @@ use Rattle.rules.specs.Records.{roomOf, writtenOf, startingBase}
 abbrev pub word : List ℕ → ℕ → ℕ
 word file at = getD file at 0 + 2 ^ 8 * getD file (at + 1) 0 + 2 ^ 16 * getD file (at + 2) 0 + 2 ^ 24 * getD file (at + 3) 0
 
+-- "(64 bits each)", little-endian as well
 abbrev pub longWord : List ℕ → ℕ → ℕ
 longWord file at = word file at + 2 ^ 32 * word file (at + 4)
 
@@ -38,6 +39,7 @@ pub record Trailer : Type 0 where
   pub stateCount : ℕ
   pub distance : ℕ
 
+-- "then a 40-byte trailer": its parts, in order, from its first byte on
 abbrev pub trailerAt : List ℕ → ℕ → Trailer
 trailerAt file from = record {
   batchAt = longWord file from;
@@ -49,16 +51,17 @@ trailerAt file from = record {
   distance = word file (from + 36);
 }
 
+-- "then a 40-byte trailer": the last of the file
 unfoldable pub trailerOf : List ℕ → Trailer
 trailerOf file = trailerAt file (length file - trailerBytes)
 
--- what the reader is asked: a file, and how many words the two lent buffers have
+-- "The reader fills two lent word buffers": what it is asked, which is a file and how many words the two buffers have
 pub record Offer : Type 0 where
   pub file : List ℕ
   pub batchRoom : ℕ
   pub stateRoom : ℕ
 
--- the limit of 1 in a file: 4,096 dwords
+-- "1 for counts": "over 4,096", of a file
 abbrev pub fileLimit : ℕ
 fileLimit = 4096
 
@@ -89,6 +92,7 @@ fileChecks =
     ∷ (λ o. refuseIf (bufferShort o) (fault BufferShort inBatch 0))
     ∷ []
 
+-- "batch, state and scratch address .., scratch length, batch count, state count": what the reader answers of a file that it accepts
 abbrev pub contentsOf : Trailer → Contents
 contentsOf t = record {
   batch = record { at = t .batchAt; count = t .batchCount };
@@ -96,11 +100,12 @@ contentsOf t = record {
   scratch = window (t .scratchAt) (t .scratchBytes);
 }
 
+-- "Refusals in order": the first, or the contents
 abbrev pub openedBy : Verdict → Trailer → Opened
 openedBy Pass t = Holds (contentsOf t)
 openedBy (Fails f) t = NotRead (f .reason)
 
--- what the reader answers
+-- "Refusals in order": what the reader answers
 unfoldable pub openedOf : List ℕ → ℕ → ℕ → Opened
 openedOf file batchRoom stateRoom =
     openedBy (firstFault fileChecks (record { file = file; batchRoom = batchRoom; stateRoom = stateRoom })) (trailerOf file)
@@ -110,21 +115,24 @@ unfoldable pub openedVerdict : Opened → Verdict
 openedVerdict (Holds contents) = Pass
 openedVerdict (NotRead reason) = Fails (fault reason inBatch 0)
 
+-- "place 0,0, count 0": the same as an answer
 abbrev pub openedAnswer : Opened → Answer
 openedAnswer opened = answerWith (openedVerdict opened) 0
 
--- n dwords of the file, from a byte on
+-- "batch dwords, state dwords": n dwords of the file, from a byte on
 unfoldable pub dwordsFrom : List ℕ → ℕ → ℕ → List ℕ
 dwordsFrom file at zero = []
 dwordsFrom file at (suc n) = word file at ∷ dwordsFrom file (at + 4) n
 
--- "batch dwords, state dwords, then a 40-byte trailer"
+-- "distance back from the file's end to the first batch byte"
 abbrev pub batchFrom : List ℕ → ℕ
 batchFrom file = length file - trailerOf file .distance
 
+-- "batch dwords", from the first batch byte on
 unfoldable pub batchDwords : List ℕ → List ℕ
 batchDwords file = dwordsFrom file (batchFrom file) (trailerOf file .batchCount)
 
+-- "batch dwords, state dwords": behind them
 unfoldable pub stateDwords : List ℕ → List ℕ
 stateDwords file = dwordsFrom file (batchFrom file + 4 * trailerOf file .batchCount) (trailerOf file .stateCount)
 
@@ -137,13 +145,13 @@ unfoldable pub filledBy : Opened → List ℕ → List ℕ → List ℕ
 filledBy (Holds contents) dwords old = filled dwords old
 filledBy (NotRead reason) dwords old = old
 
--- THE PROMISE of `capture::read`: its answer, and every word of the two buffers as it returns
+-- "Each public call is promised completely". THE PROMISE of `capture::read`: its answer, and every word of the two buffers as it returns
 pub record FileRead (file batch state : List ℕ) (opened : Opened) (newBatch newState : List ℕ) : Type 0 where
   pub answers : opened ≡ openedOf file (length batch) (length state)
   pub batchFilled : newBatch ≡ filledBy (openedOf file (length batch) (length state)) (batchDwords file) batch
   pub stateFilled : newState ≡ filledBy (openedOf file (length batch) (length state)) (stateDwords file) state
 
--- the capture that a file holds
+-- "Little-endian: batch dwords, state dwords, then a 40-byte trailer": the capture that a file holds
 unfoldable pub captureOf : List ℕ → Capture
 captureOf file =
     let t : Trailer = trailerOf file in
@@ -156,14 +164,16 @@ captureOf file =
       scratchBytes = t .scratchBytes;
     }
 
--- the run of a file: its refusal by the reader, or the walk of the capture that it holds
+-- "Capture file and printout": the run of a file, which is its refusal by the reader, or the walk of the capture that it holds
 abbrev pub runBy : Opened → List ℕ → ℕ → Run
 runBy opened file room = unless (openedVerdict opened) (walk startingBase (captureOf file) room)
 
+-- "Capture file and printout": the run of a file, by the room of the three lent buffers
 unfoldable pub fileRun : List ℕ → ℕ → ℕ → ℕ → Run
 fileRun file batchRoom stateRoom room = runBy (openedOf file batchRoom stateRoom) file room
 
--- THE PROMISE of `capture::judge`: the answer for a file, and every word of the three buffers as it returns
+-- "Each public call is promised completely". THE PROMISE of `capture::judge`: the answer for a file, and every word of the three buffers as it
+-- returns
 pub record Judged (file batch state records : List ℕ) (answer : Answer) (newBatch newState newRecords : List ℕ) : Type 0 where
   pub answers : answer ≡ answerOf (fileRun file (length batch) (length state) (roomOf (length records)))
   pub batchFilled : newBatch ≡ filledBy (openedOf file (length batch) (length state)) (batchDwords file) batch

@@ -44,10 +44,11 @@ surfaceFormats =
     ∷ 0 ∷ 0 ∷ 0 ∷ 0 ∷ 0 ∷ 0 ∷ 0 ∷ 0 ∷ 0 ∷ 0 ∷ 0 ∷ 0 ∷ 0 ∷ 0 ∷ 0 ∷ 0  -- 1F0h
     ∷ []
 
+-- "bits per element", of a 9-bit code
 unfoldable pub formatBits : ℕ → ℕ
 formatBits code = getD surfaceFormats code 0
 
--- low to high, both included
+-- "000h..008h", "01h..14h": low to high, both included
 abbrev pub between : ℕ → ℕ → ℕ → Bool
 between low high n = leb low n && leb n high
 
@@ -70,5 +71,6 @@ knownTopology code = between 0x01 0x14 code || (eqb code 0x16 || between 0x20 0x
 abbrev pub registers : List ℕ
 registers = 0x2400 ∷ 0x2404 ∷ 0x2408 ∷ 0x240C ∷ 0x2420 ∷ 0x2430 ∷ 0x2434 ∷ 0x2438 ∷ 0x243C ∷ 0x2440 ∷ []
 
+-- "register is .., or a multiple of 4 in 2600h..267Ch": asked of an offset
 unfoldable pub knownRegister : ℕ → Bool
 knownRegister r = some (eqb r) registers || (eqb (r % 4) 0 && between 0x2600 0x267C r)

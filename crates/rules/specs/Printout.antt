@@ -10,12 +10,12 @@ use Rattle.rules.specs.Walk.{Run, commandsOf, answerOf}
 use Rattle.rules.specs.Records.{roomOf, wordsOf, commandOf}
 use Rattle.rules.specs.File.{fileLimit, fileRun}
 
--- the bytes of a number in decimal, with no leading zero; so many digits at most
+-- "in decimal": the bytes of a number, with no leading zero; so many digits at most
 unfoldable pub digitsOf : ℕ → ℕ → List ℕ
 digitsOf zero n = []
 digitsOf (suc more) n = cond (ltb n 10) [] (digitsOf more (n / 10)) ++ ((48 + n % 10) ∷ [])
 
--- a number below 2^64 has at most 20 digits
+-- "in decimal": a number below 2^64 has at most 20 digits
 abbrev pub decimal : ℕ → List ℕ
 decimal n = digitsOf 20 n
 
@@ -36,9 +36,11 @@ indexText = 32 ∷ 105 ∷ 110 ∷ 100 ∷ 101 ∷ 120 ∷ 32 ∷ []
 abbrev pub commandsText : List ℕ
 commandsText = 32 ∷ 99 ∷ 111 ∷ 109 ∷ 109 ∷ 97 ∷ 110 ∷ 100 ∷ 115 ∷ 32 ∷ []
 
+-- what stands between the numbers of the example, " "
 abbrev pub space : List ℕ
 space = 32 ∷ []
 
+-- "reason 0 window 0 index 0 commands 2", and then the next line: what ends a line
 abbrev pub lineFeed : List ℕ
 lineFeed = 10 ∷ []
 
@@ -51,15 +53,16 @@ answerLine a =
 unfoldable pub commandLine : Command → List ℕ
 commandLine c = decimal (c .index) ++ (space ++ (decimal (c .level) ++ (space ++ (decimal (c .row) ++ (space ++ (decimal (c .length) ++ lineFeed))))))
 
+-- "index, level, row and length per record": the line of one
 abbrev pub recordLine : ℕ → List ℕ
 recordLine word = commandLine (commandOf word)
 
--- a line for each record
+-- "per record": a line for each
 unfoldable pub recordLines : List ℕ → List ℕ
 recordLines [] = []
 recordLines (word ∷ words) = recordLine word ++ recordLines words
 
--- the whole printout of an answer and its records
+-- "prints in decimal the answer, then index, level, row and length per record"
 unfoldable pub printout : Answer → List ℕ → List ℕ
 printout answer records = answerLine answer ++ recordLines records
 

@@ -11,27 +11,27 @@ use Rattle.rules.specs.Words.{field}
 use Rattle.rules.specs.Windows.{Capture}
 use Rattle.rules.specs.Walk.{Run, walk, commandsOf, answerOf}
 
--- a command's record
+-- "A record is one word: ..": a command's record
 unfoldable pub recordOf : Command → ℕ
 recordOf c = c .index + 2 ^ 12 * c .level + 2 ^ 16 * c .length + 2 ^ 24 * c .row
 
--- and back
+-- "index, level, row and length per record": what a record says
 unfoldable pub commandOf : ℕ → Command
 commandOf w = record { index = field w 11 0; level = field w 12 12; row = field w 31 24; length = field w 23 16 }
 
--- a command whose numbers fit their bits
+-- "bits 11:0", "bit 12", "23:16", "31:24": a command whose numbers fit their bits
 pub record Recordable (c : Command) : Type 0 where
   pub index : c .index < 2 ^ 12
   pub level : c .level < 2
   pub length : c .length < 2 ^ 8
   pub row : c .row < 2 ^ 8
 
--- the words of a list of commands
+-- "that many records are written": the words of a list of commands
 unfoldable pub wordsOf : List Command → List ℕ
 wordsOf [] = []
 wordsOf (c ∷ cs) = recordOf c ∷ wordsOf cs
 
--- how many records so many words have room for: a record is one word
+-- "A record is one word": how many records so many words have room for
 abbrev pub roomOf : ℕ → ℕ
 roomOf words = words
 
@@ -44,7 +44,8 @@ writtenOf run old = wordsOf (commandsOf run) ++ drop (length (wordsOf (commandsO
 abbrev pub startingBase : Base
 startingBase = Unset
 
--- THE PROMISE of `walk::check`: its answer, and every word of the record buffer as it returns, by the walk of the capture
+-- "Each public call is promised completely: answer, records and every untouched word". THE PROMISE of `walk::check`: its answer, and every word
+-- of the record buffer as it returns, by the walk of the capture
 pub record Checked (c : Capture) (old : List ℕ) (answer : Answer) (new : List ℕ) : Type 0 where
   pub answers : answer ≡ answerOf (walk startingBase c (roomOf (length old)))
   pub written : new ≡ writtenOf (walk startingBase c (roomOf (length old))) old

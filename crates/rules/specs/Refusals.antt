@@ -38,9 +38,11 @@ numberOf BufferShort = 21
 abbrev pub inBatch : ℕ
 inBatch = 0
 
+-- "window (0 batch, 1 state)"
 abbrev pub inState : ℕ
 inState = 1
 
+-- a row of the table: "No." by its reason, and "Place", which is a window and an index
 abbrev pub fault : Reason → ℕ → ℕ → Fault
 fault reason window index = record { reason = reason; window = window; index = index }
 
@@ -59,5 +61,6 @@ tried [] said a = said
 tried (check ∷ checks) (Fails f) a = Fails f
 tried (check ∷ checks) Pass a = tried checks (check a) a
 
+-- "Refusal numbers, in checking order": of a whole list of checks, before which nothing was said
 abbrev pub firstFault : {A : Type 0} → List (A → Verdict) → A → Verdict
 firstFault checks a = tried checks Pass a

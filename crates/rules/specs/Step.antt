@@ -29,40 +29,48 @@ use Rattle.rules.specs.Values.{valueWrong}
 use Rattle.rules.specs.Addresses.{addressAt, rangeWrong}
 use Rattle.rules.specs.Structures.{Asked, askedAt, structureNowhere, structureBit, structureValue}
 
--- the rows that the walk itself knows
+-- "A batch end": row 1, MI_BATCH_BUFFER_END
 abbrev pub endRow : ℕ
 endRow = 1
 
+-- "A start": row 2, MI_BATCH_BUFFER_START
 abbrev pub startRow : ℕ
 startRow = 2
 
+-- "Row 9": STATE_BASE_ADDRESS
 abbrev pub baseRow : ℕ
 baseRow = 9
 
+-- "Row 14: CC_VIEWPORT"
 abbrev pub viewportRow : ℕ
 viewportRow = 14
 
+-- "Row 15 with bit 0 set: COLOR_CALC_STATE"
 abbrev pub colourRow : ℕ
 colourRow = 15
 
--- where a check is asked: in which capture, and where the walk stands in it
+-- "tried per command": where a check is asked, which is in a capture, and where the walk stands in it
 pub record Here : Type 0 where
   pub capture : Capture
   pub cursor : Cursor
 
+-- "tried per command": in this capture, at this cursor
 abbrev pub here : Capture → Cursor → Here
 here c s = record { capture = c; cursor = s }
 
--- the command that stands at a position: its header, its row, its length and its dwords
+-- "Header": the dword at which a command starts
 abbrev pub headerAt : List ℕ → ℕ → ℕ
 headerAt batch at = getD batch at 0
 
+-- "table row": that of the command at a position
 abbrev pub rowAt : List ℕ → ℕ → ℕ
 rowAt batch at = rowOf (headerAt batch at)
 
+-- "Total length": that of the command at a position
 abbrev pub lengthAt : List ℕ → ℕ → ℕ
 lengthAt batch at = lengthOf (rowAt batch at) (headerAt batch at)
 
+-- "by dword": the dwords of the command at a position, as many as its length
 unfoldable pub dwordsAt : List ℕ → ℕ → List ℕ
 dwordsAt batch at = take (lengthAt batch at) (drop at batch)
 
@@ -90,29 +98,35 @@ abbrev pub nested : ℕ → Level → Bool
 nested r First = false
 nested r (Second back) = eqb r startRow
 
--- what the checks of one command look at
+-- "position": that of the command that a check looks at
 abbrev pub at : Here → ℕ
 at h = h .cursor .at
 
+-- "header": that of the command that a check looks at
 abbrev pub headerHere : Here → ℕ
 headerHere h = headerAt (h .capture .batch) (at h)
 
+-- "table row": of the same command
 abbrev pub rowHere : Here → ℕ
 rowHere h = rowAt (h .capture .batch) (at h)
 
+-- "Total length": of the same command
 abbrev pub lengthHere : Here → ℕ
 lengthHere h = lengthAt (h .capture .batch) (at h)
 
+-- "by dword": the dwords of the same command
 abbrev pub dwordsHere : Here → List ℕ
 dwordsHere h = dwordsAt (h .capture .batch) (at h)
 
--- the places that the table names: "header", "first such dword", and those of the structure that the command points to
+-- the place "header"
 abbrev pub atHeader : Reason → Here → Bool → Verdict
 atHeader reason h given = refuseIf given (fault reason inBatch (at h))
 
+-- the place "first such dword"
 abbrev pub atFirst : Reason → Here → (ℕ → Bool) → Verdict
 atFirst reason h wrong = refuseFound reason inBatch (at h) (firstOf wrong (lengthHere h))
 
+-- the places "pointer dword" and "dword in its window": the pointer is dword 1 of its command
 abbrev pub ofStructure : (Asked → Verdict) → Here → Verdict
 ofStructure check h = pointed check (h .capture) (at h + 1) (pointerOf (rowHere h) (dwordsHere h)) (h .cursor .base)
 
@@ -165,7 +179,7 @@ baseNeverSet h =
 unfoldable pub recordsFull : ℕ → ℕ → Here → Verdict
 recordsFull done room h = atHeader RecordsFull h (leb room done)
 
--- the checks that need neither the budget nor the room: 6 to 17
+-- "5 to 18 are tried per command in this order": those that need neither the budget nor the room, 6 to 17
 unfoldable pub stepChecks : List (Here → Verdict)
 stepChecks =
     ranOff
@@ -186,7 +200,7 @@ stepChecks =
 unfoldable pub checks : ℕ → ℕ → List (Here → Verdict)
 checks done room = budgetSpent done ∷ (stepChecks ++ (recordsFull done room ∷ []))
 
--- where the walk stands next
+-- "Start at dword 0, level 0, no dynamic base": a position, a level and a base
 abbrev pub cursor : ℕ → Level → Base → Cursor
 cursor at level base = record { at = at; level = level; base = base }
 
@@ -203,6 +217,7 @@ levelAfterStart header next level = cond (bit header 22) (Second next) level
 abbrev pub newBase : List ℕ → ℕ
 newBase d = 2 ^ 12 * field (getD d 6 0) 31 12 + 2 ^ 32 * field (getD d 7 0) 15 0
 
+-- "the dynamic base becomes ..", in row 9 "if dword 6 bit 0 is set"
 unfoldable pub baseAfter : ℕ → List ℕ → Base → Base
 baseAfter r d base = cond (eqb r baseRow && bit (getD d 6 0) 0) (Set (newBase d)) base
 
@@ -214,20 +229,22 @@ moveOf c s r d next =
     (To (cursor (dwordOf (windowsOf c .batch) (addressAt d 1)) (levelAfterStart (getD d 0 0) next (s .level)) (s .base)))
     (To (cursor next (s .level) (baseAfter r d (s .base)))))
 
+-- "level 0", "level 1"
 abbrev pub levelNumber : Level → ℕ
 levelNumber First = 0
 levelNumber (Second back) = 1
 
--- the command that a cursor stands at, as a record names it
+-- "index .., level .., total length .., table row": the command that a cursor stands at
 unfoldable pub commandAt : List ℕ → Cursor → Command
 commandAt batch s =
     record { index = s .at; level = levelNumber (s .level); row = rowAt batch (s .at); length = lengthAt batch (s .at) }
 
+-- "Count is the number of commands accepted": a command is, when no check fails
 abbrev pub outcomeOf : Verdict → Command → After → Outcome
 outcomeOf Pass command after = Taken command after
 outcomeOf (Fails f) command after = Refused f
 
--- one step: the first fault among 6 to 17, or the command and where it leads
+-- "tried per command": one step, which is the first fault among 6 to 17, or the command and where it leads
 unfoldable pub stepOf : Capture → Cursor → Outcome
 stepOf c s =
     outcomeOf (firstFault stepChecks (here c s)) (commandAt (c .batch) s)

@@ -19,7 +19,7 @@ use Rattle.rules.specs.Refusals.{inBatch, inState, fault, refuseIf, refu
 use Rattle.rules.specs.Windows.{lent, heldAt, partOf}
 use Rattle.rules.specs.Commands.{anyDword}
 
--- a structure's dwords: how many, and the allowed bits of the leading one and of the group that follows it
+-- "2 dwords", "6 dwords. Dword 0 allows ..": how many, and the allowed bits of the leading one and of the group that follows it
 pub record Layout : Type 0 where
   pub dwords : ℕ
   pub lead : ℕ
@@ -35,10 +35,11 @@ unfoldable pub structureBitWrong : Kind → List ℕ → ℕ → Bool
 structureBitWrong kind d k =
     not (allowed (getD d k 0) (getD (layoutOf kind .lead ∷ layoutOf kind .group) (inGroup (length (layoutOf kind .group)) k) 0))
 
--- a dword as a single-precision value
+-- "as single-precision values": a dword as one
 abbrev pub single : ℕ → Float
 single w = ofBits binary32 w
 
+-- "NaN"
 abbrev pub isNan : ℕ → Bool
 isNan w = nanBits binary32 w
 
@@ -59,20 +60,21 @@ unfoldable pub structureValueWrong : Kind → List ℕ → ℕ → Bool
 structureValueWrong Viewport d k = depthWrong d k
 structureValueWrong ColourCalc d k = colourWrong d k
 
--- a structure that is asked for: which, where it lies, its dwords, and the batch dword that points to it
+-- "read a structure": which one, where it lies, its dwords, and the "pointer dword" of the batch
 pub record Asked : Type 0 where
   pub kind : Kind
   pub held : Held
   pub dwords : List ℕ
   pub pointer : ℕ
 
--- the structure at an address
+-- "Structures may lie in either lent window": the structure at an address
 abbrev pub askedAt : List ℕ → ℕ → List ℕ → ℕ → Kind → ℕ → ℕ → Asked
 askedAt batch batchAt state stateAt kind address pointer =
     let n : ℕ = layoutOf kind .dwords in
     let held : Held = heldAt (lent batchAt (length batch)) (lent stateAt (length state)) address n in
     record { kind = kind; held = held; dwords = partOf batch state n held; pointer = pointer }
 
+-- "structure in neither lent window"
 abbrev pub nowhere : Held → Bool
 nowhere (InBatch i) = false
 nowhere (InState i) = false
@@ -84,6 +86,7 @@ heldWindow (InBatch i) = inBatch
 heldWindow (InState i) = inState
 heldWindow Nowhere = inBatch
 
+-- "dword in its window": the one at which the structure starts there
 abbrev pub heldFrom : Held → ℕ
 heldFrom (InBatch i) = i
 heldFrom (InState i) = i
@@ -105,7 +108,7 @@ structureValue a =
     refuseFound StructureValue (heldWindow (a .held)) (heldFrom (a .held))
     (firstOf (structureValueWrong (a .kind) (a .dwords)) (layoutOf (a .kind) .dwords))
 
--- the order of the three
+-- "5 to 18 are tried per command in this order": 15, 16, 17
 unfoldable pub structureChecks : List (Asked → Verdict)
 structureChecks = structureNowhere ∷ structureBit ∷ structureValue ∷ []
 
@@ -114,6 +117,7 @@ abbrev pub valuesOf : Kind → List ℕ → Reading
 valuesOf Viewport d = Depths (single (getD d 0 0)) (single (getD d 1 0))
 valuesOf ColourCalc d = Colour (single (getD d 2 0)) (single (getD d 3 0)) (single (getD d 4 0)) (single (getD d 5 0))
 
+-- "or its refusal"
 abbrev pub readingOf : Verdict → Kind → List ℕ → Reading
 readingOf Pass kind d = valuesOf kind d
 readingOf (Fails f) kind d = Unreadable f
@@ -124,13 +128,13 @@ readAt batch batchAt state stateAt kind address pointer =
     let a : Asked = askedAt batch batchAt state stateAt kind address pointer in
     readingOf (firstFault structureChecks a) kind (a .dwords)
 
--- what each case of a read says of the capture, the refusal with its reason and place
+-- "or its refusal": what each case of a read says of the capture, the refusal with its reason and place
 unfoldable pub verdictOf : Reading → Verdict
 verdictOf (Depths a b) = Pass
 verdictOf (Colour r g b a) = Pass
 verdictOf (Unreadable f) = Fails f
 
--- and the values that it gives back: two floats, four, or none
+-- "with two floats", "with four": the values that each case gives back, and none with a refusal
 unfoldable pub floatsOf : Reading → List Float
 floatsOf (Depths least greatest) = least ∷ greatest ∷ []
 floatsOf (Colour red green blue alpha) = red ∷ green ∷ blue ∷ alpha ∷ []

@@ -8,12 +8,12 @@ use Rattle.rules.specs.Words.{bit, field, some}
 use Rattle.rules.specs.Formats.{formatBits, knownTopology, knownRegister}
 use Rattle.rules.specs.Commands.{spot}
 
--- A rule is asked of each dword of a command: the command's dwords, which dword of its group this one is (the header is 0), and the dword
--- itself. It answers whether the rule is broken there.
+-- "Value rules (12)", "first such dword": a rule is asked of each dword of a command. It is given the command's dwords, which dword of its group
+-- this one is (the header is 0), and the dword itself, and answers whether the rule is broken there.
 abbrev pub Rule : Type 0
 Rule = List ℕ → ℕ → ℕ → Bool
 
--- rows 0, 1, 8, 9, 14, 15 have no value rule
+-- "Value rules (12)" has no line for rows 0, 1, 8, 9, 14 and 15
 abbrev pub noRule : Rule
 noRule d j w = false
 
@@ -78,7 +78,7 @@ primitiveRule d j w =
     bit (getD d 1 0) 9
     && ((eqb j 1 && (bit (getD d 0 0) 10 || bit w 8)) || ((eqb j 3 || (eqb j 5 || eqb j 6)) && not (eqb w 0)))
 
--- the rules by row
+-- "Value rules (12)", by row
 unfoldable pub valueRules : List Rule
 valueRules =
     -- 0 MI_NOOP, 1 MI_BATCH_BUFFER_END, 2 MI_BATCH_BUFFER_START
@@ -92,6 +92,7 @@ valueRules =
     -- 14 3DSTATE_VIEWPORT_STATE_POINTERS_CC, 15 3DSTATE_CC_STATE_POINTERS, 16 3DPRIMITIVE
     ∷ noRule ∷ noRule ∷ primitiveRule ∷ []
 
+-- "Row 2:", "Rows 3, 5, 6:": the rule of a row
 unfoldable pub ruleOf : ℕ → Rule
 ruleOf r = getD valueRules r noRule
 

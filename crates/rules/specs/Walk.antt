@@ -23,8 +23,8 @@ pub data Run : Type 0 where
   ended : Verdict → Run
   then : Command → Run → Run
 
--- the run from a cursor on, where `o` is the step there, with so many commands left of the budget. The rest of a run is bound by `let`, so
--- that whoever computes a run computes no more of it than is asked for.
+-- "The walk": the run from a cursor on, where `o` is the step there, with so many commands left of the budget; 5 is "65,536 commands done, run
+-- not ended". The rest of a run is bound by `let`, so that whoever computes a run computes no more of it than is asked for.
 unfoldable pub trace : ℕ → Capture → Cursor → Outcome → Run
 trace zero c s o = ended (Fails (fault BudgetSpent inBatch (s .at)))
 trace (suc left) c s (Refused f) = ended (Fails f)
@@ -41,6 +41,7 @@ cut (suc room) (then command rest) = then command (cut room rest)
 abbrev pub start : Base → Cursor
 start base = cursor 0 First base
 
+-- "The walk", from a cursor on, its first step included
 abbrev pub traceFrom : ℕ → Capture → Cursor → Run
 traceFrom left c s = trace left c s (stepOf c s)
 
@@ -49,20 +50,22 @@ abbrev pub unless : Verdict → Run → Run
 unless Pass run = run
 unless (Fails f) run = ended (Fails f)
 
--- the walk of a capture, with room for so many records
+-- "The walk" of a capture, with room for so many records
 unfoldable pub walk : Base → Capture → ℕ → Run
 walk base c room = unless (windowFault (lengthsOf c)) (cut room (traceFrom budget c (start base)))
 
--- what the walk reaches: from the cursor s the commands are taken, one after the other, and then it stands at the last cursor
+-- "goes to its target", "go on by their length": from the cursor s the commands are taken, one after the other, and then the walk stands at the
+-- last cursor
 pub data Leads (c : Capture) : Cursor → List Command → Cursor → Type 0 where
   stays : {s : Cursor} → Leads c s [] s
   onward : {s t u : Cursor} {command : Command} {commands : List Command} → stepOf c s ≡ Taken command (To t) → Leads c t commands u → Leads c s (command ∷ commands) u
 
--- the commands accepted, and how the run ended
+-- "commands accepted", in order
 unfoldable pub commandsOf : Run → List Command
 commandsOf (ended v) = []
 commandsOf (then command rest) = command ∷ commandsOf rest
 
+-- "(0 = accepted)", or the refusal: how a run ended
 unfoldable pub endOf : Run → Verdict
 endOf (ended v) = v
 endOf (then command rest) = endOf rest

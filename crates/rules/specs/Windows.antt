@@ -29,13 +29,15 @@ pub record Capture : Type 0 where
 abbrev pub windowLimit : ℕ
 windowLimit = 4096
 
+-- "known only by address and byte length"
 abbrev pub window : ℕ → ℕ → Window
 window at bytes = record { at = at; bytes = bytes }
 
--- where `count` dwords at an address lie
+-- "both lent as 32-bit words": where `count` dwords at an address lie
 abbrev pub lent : ℕ → ℕ → Window
 lent at count = window at (4 * count)
 
+-- "A capture has a batch window .., a state window .. and a scratch window": where each lies
 unfoldable pub windowsOf : Capture → Windows
 windowsOf c = record {
   batch = lent (c .batchAt) (length (c .batch));
@@ -43,6 +45,7 @@ windowsOf c = record {
   scratch = window (c .scratchAt) (c .scratchBytes);
 }
 
+-- "Each address ..; each window ..": the windows, to ask each of them
 abbrev pub listed : Windows → List Window
 listed w = w .batch ∷ w .state ∷ w .scratch ∷ []
 
@@ -66,7 +69,7 @@ endsTooHigh w = ltb (2 ^ 48) (end w)
 abbrev pub shareByte : Window → Window → Bool
 shareByte v w = (ltb 0 (v .bytes) && ltb 0 (w .bytes)) && (ltb (v .at) (end w) && ltb (w .at) (end v))
 
--- what the checks 1 to 4 look at: the counts of the two lent windows, and where all three lie
+-- "batch count .., state count ..", and where all three windows lie: what the checks 1 to 4 look at
 pub record Lengths : Type 0 where
   pub batch : ℕ
   pub state : ℕ
@@ -81,17 +84,19 @@ windowChecks =
     ∷ (λ l. refuseIf (someTwo shareByte (listed (l .windows))) (fault WindowsShare inBatch 0))
     ∷ []
 
+-- "batch count .., state count ..": those of a capture, and where its windows lie
 abbrev pub lengthsOf : Capture → Lengths
 lengthsOf c = record { batch = length (c .batch); state = length (c .state); windows = windowsOf c }
 
+-- "1 to 4 precede the walk": the first of them that a capture meets
 unfoldable pub windowFault : Lengths → Verdict
 windowFault l = firstFault windowChecks l
 
--- all the bytes of a range lie in the window
+-- "all its bytes lie in one window": in this one
 unfoldable pub holds : Window → ℕ → ℕ → Bool
 holds w address bytes = leb (w .at) address && leb (address + bytes) (end w)
 
--- the windows that an address rule names
+-- "in the batch window", "in scratch", "in any window": the windows that an address rule names
 unfoldable pub windowsAllowed : Allowed → Windows → List Window
 windowsAllowed BatchOnly w = w .batch ∷ []
 windowsAllowed ScratchOnly w = w .scratch ∷ []
@@ -101,10 +106,11 @@ windowsAllowed AnyWindow w = listed w
 unfoldable pub fits : Windows → Allowed → ℕ → ℕ → Bool
 fits w allowed address bytes = some (λ v. holds v address bytes) (windowsAllowed allowed w)
 
--- n dwords at an address that is a whole dword of the window
+-- "the structure's own dwords": n dwords at an address that is a whole dword of the window
 unfoldable pub holdsDwords : Window → ℕ → ℕ → Bool
 holdsDwords w address n = holds w address (4 * n) && eqb ((address - w .at) % 4) 0
 
+-- "dword in its window": which dword an address names
 abbrev pub dwordOf : Window → ℕ → ℕ
 dwordOf w address = (address - w .at) / 4
 

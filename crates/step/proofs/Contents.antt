@@ -24,10 +24,11 @@ use Rattle.rules.specs.Windows.{Capture}
 use Rattle.rules.specs.Commands.{allowedAt, bitWrong}
 use Rattle.rules.specs.Values.{valueWrong}
 use Rattle.rules.specs.Addresses.{accessAt, rangeWrong}
-use Rattle.rules.specs.Structures.{Asked, structureNowhere, structureBit, structureValue, structureChecks, readingOf, readAt, verdictOf}
+use Rattle.rules.specs.Structures.{Asked, structureNowhere, structureBit, structureValue, structureChecks, readAt, verdictOf}
 use Rattle.rules.specs.Step.{nested}
 use Rattle.rules.proofs.Searching.{first-found}
 use Rattle.rules.proofs.Trying.{stays-failed}
+use Rattle.rules.proofs.Readings.{reading-says}
 use Rattle.search.specs.declared.Sought.the-variants.{Bits, Values, Ranges}
 use Rattle.search.specs.Search.{wrongAt, wrong}
 use Rattle.step.specs.Parts.{orElse, contentOf, structuralOf}
@@ -70,13 +71,7 @@ tried-or check checks a = by (check a)
     by Pass = refl
     by (Fails f) = stays-failed checks f a
 
--- what a read says is the first fault of its three checks
-says : (v : Verdict) (kind : Kind) (d : List ℕ) → verdictOf (readingOf v kind d) ≡ v
-unfolding verdictOf
-says Pass Viewport d = refl
-says Pass ColourCalc d = refl
-says (Fails f) kind d = refl
-
+-- the first fault of a structure's three checks
 three : (a : Asked) → firstFault structureChecks a ≡ orElse (structureNowhere a) (orElse (structureBit a) (structureValue a))
 unfolding structureChecks tried
 three a =
@@ -95,4 +90,4 @@ module _ (c : Capture) (place : ℕ) (p : Pointer) (base : Base) where
   pub read : {kind : Kind} {offset b : ℕ} → p ≡ PointsTo kind offset → base ≡ Set b
       → verdictOf (readAt (c .batch) (c .batchAt) (c .state) (c .stateAt) kind (b + offset) place) ≡ structuralOf c place p base
   unfolding structuralOf readAt
-  read {kind} {offset} {b} e s = rw (e, s, says) (three _)
+  read {kind} {offset} {b} e s = rw (e, s, reading-says) (three _)

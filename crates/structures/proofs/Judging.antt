@@ -14,8 +14,7 @@ use Rattle.rules.specs.Refusals.{inBatch, fault, firstFault}
 use Rattle.rules.specs.Structures.{Asked, layoutOf, structureBitWrong, structureValueWrong, nowhere, heldWindow, heldFrom}
 use Rattle.rules.specs.Structures.{structureNowhere, structureBit, structureValue, structureChecks}
 use Rattle.rules.proofs.Searching.{first-found}
-use Rattle.rules.proofs.Trying.{all-pass, no-fault, search-clear}
-use Rattle.words.proofs.Order.{fails-first}
+use Rattle.rules.proofs.Trying.{all-pass, no-fault, fails-first, search-clear}
 
 module _ (a : Asked) where
   -- what the two searches find

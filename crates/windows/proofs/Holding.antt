@@ -10,7 +10,7 @@ use Rattle.rules.specs.declared.Window.{Window}
 use Rattle.rules.specs.declared.Held.the-variants.{InBatch, InState, Nowhere}
 use Rattle.rules.specs.Windows.{lent, holds, holdsDwords, dwordOf, heldAt}
 use Rattle.rules.proofs.Searching.{either, and-left, and-right}
-use Rattle.words.proofs.Ranges.{Inside, inside}
+use Rattle.rules.proofs.Ranges.{Inside, inside}
 
 module _ (w : Window) (address n : ℕ) where
   -- a window of 64-bit length holds no more dwords than 64 bits can count the bytes of
@@ -25,7 +25,7 @@ module _ (w : Window) (address n : ℕ) where
   bytes-inside e = inside w address (4 * n) (and-left (holds w address (4 * n)) _ e)
 
   pub starts-above : holdsDwords w address n ≡ true → w .at ≤ address
-  starts-above e = bytes-inside e .above
+  starts-above e = bytes-inside e .low
 
   pub whole-dword : holdsDwords w address n ≡ true → (address - w .at) % 4 ≡ 0
   unfolding holdsDwords

@@ -1,4 +1,3 @@
 pub mod Tests
 pub mod Ranges
 pub mod Loops
-pub mod Order

@@ -2,25 +2,15 @@
 -- Assumes nothing.
 use Prim.Native.Nat.{ℕ, _+_, _-_, _≤_, _<_}
 use mathlib.Core.Path.{_≡_}
-use mathlib.Core.Bool.{true, false}
+use mathlib.Core.Bool.{false}
 use native.Mathlib.Omega.{arith}
-use borrow.Author.Tests.{leb-true, le-leb, lt-leb}
+use borrow.Author.Tests.{le-leb, lt-leb}
 use lib.Dec.{leb}
 use Rattle.rules.specs.declared.Window.{Window}
 use Rattle.rules.specs.Windows.{holds, end}
-use Rattle.rules.proofs.Searching.{and-left, and-right}
 use Rattle.words.proofs.Tests.{same-order}
 
--- what a window that holds a range tells
-pub record Inside (w : Window) (address bytes : ℕ) : Type 0 where
-  pub above : w .at ≤ address
-  pub below : address + bytes ≤ end w
-
 module _ (w : Window) (address bytes : ℕ) where
-  pub inside : holds w address bytes ≡ true → Inside w address bytes
-  unfolding holds
-  inside e = record { above = leb-true _ _ (and-left (leb (w .at) address) _ e); below = leb-true _ _ (and-right (leb (w .at) address) _ e) }
-
   pub starts-before : address < w .at → false ≡ holds w address bytes
   unfolding holds
   starts-before h = simp (lt-leb _ _ h)

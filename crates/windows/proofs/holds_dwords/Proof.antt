@@ -3,7 +3,7 @@
 use mathlib.Core.Path.{sym, _∙_}
 use borrow.Author.Needs.{needs}
 use Rattle.rules.specs.Windows.{holdsDwords}
-use Rattle.words.proofs.Ranges.{inside}
+use Rattle.rules.proofs.Ranges.{inside}
 use Rattle.windows.proofs.Holding.{too-many}
 use Rattle.windows.proofs.holds_dwords.Statement.{statement}
 use Rattle.windows.proofs.holds_dwords.Tie as tie
@@ -12,7 +12,7 @@ returns : tie.Need-returns
 returns c = too-many _ _ _ (search needs) (search needs)
 
 sub-result : tie.Need-sub-result
-sub-result c = inside _ _ _ (sym (c .before .before .holds .ensures) ∙ c .before .if2 .taken) .above
+sub-result c = inside _ _ _ (sym (c .before .before .holds .ensures) ∙ c .before .if2 .taken) .low
 
 returns-2 : tie.Need-returns-2
 unfolding holdsDwords
