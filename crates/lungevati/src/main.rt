@@ -1,11 +1,11 @@
 // Prints document 01's printout of each capture that an argument names, or of the one on standard input.
-use files::ACCEPTED;
-use files::MOST_BYTES;
-use files::REFUSED;
-use files::UNREAD;
-use files::worse;
 use libc::STDIN_FILENO;
 use libc::STDOUT_FILENO;
+use reports::ACCEPTED;
+use reports::MOST_BYTES;
+use reports::REFUSED;
+use reports::UNREAD;
+use reports::worse;
 use rules::Answer;
 
 fn print_answer(answer: Answer) -> bool {
@@ -57,24 +57,45 @@ fn print_name(name: &[u8]) -> bool {
         & io::write_all(STDOUT_FILENO, b"\n")
 }
 
-fn answer_file(name: &mut [u8], among_several: bool) -> u8 {
+// Whether an input has ended: only a read that gives nothing shows it.
+fn at_end(fd: i32) -> bool {
+    let mut byte = [0u8; 1];
+    libc::read(fd, &mut byte) == 0
+}
+
+// The answer for an open input, which is shown by its name. A longer file than any capture is not read further.
+fn answer_input(fd: i32, name: &[u8], among_several: bool) -> u8 {
     let mut bytes = [0u8; MOST_BYTES];
-    let got = files::read_named(name, &mut bytes);
-    files::plain(name);
-    if !got.whole {
+    let n = io::read_full(fd, &mut bytes);
+    if n < MOST_BYTES && !at_end(fd) {
         os::fail(name);
         return UNREAD;
     }
     if among_several && !print_name(name) {
         return UNREAD;
     }
-    let n = got.count;
     print_judgement(&bytes[..n])
 }
 
+fn answer_file(name: &mut [u8], among_several: bool) -> u8 {
+    let fd = os::open_read(name);
+    reports::plain(name);
+    if fd < 0 {
+        os::fail(name);
+        return UNREAD;
+    }
+    let status = answer_input(fd, name, among_several);
+    libc::close(fd);
+    status
+}
+
+// An argument that is longer than any path fills the buffer, and no path is as long as that.
 fn answer_argument(i: usize, among_several: bool) -> u8 {
     let mut name = io::buffer();
-    let n = files::argument(i, &mut name);
+    let n = os::arg(i, &mut name);
+    if os::errno() == libc::ENAMETOOLONG {
+        return answer_file(&mut name, among_several);
+    }
     answer_file(&mut name[..n], among_several)
 }
 
@@ -88,23 +109,12 @@ fn answer_arguments(count: usize) -> u8 {
     worst
 }
 
-fn answer_input() -> u8 {
-    let mut bytes = [0u8; MOST_BYTES];
-    let got = files::read_to_end(STDIN_FILENO, &mut bytes);
-    if !got.whole {
-        os::fail(b"standard input");
-        return UNREAD;
-    }
-    let n = got.count;
-    print_judgement(&bytes[..n])
-}
-
 fn main() {
     let count = os::arg_count();
     let status = if count < 2 {
-        answer_input()
+        answer_input(STDIN_FILENO, b"standard input", false)
     } else {
         answer_arguments(count)
     };
-    files::tell(status);
+    io::write_all(3, &reports::status_line(status));
 }

@@ -8,7 +8,7 @@
 -- sooner, and does not fail on the way; a moment is a command that was run, the addresses of the words that it stored, and the machine after it.
 -- Assumes nothing.
 use Prim.Native.Nat.{ℕ, _/_}
-use mathlib.Core.Path.{_≡_, refl, sym, ap, _∙_, subst}
+use mathlib.Core.Path.{_≡_, ap}
 use mathlib.Core.List.{List, map}
 use mathlib.Core.Option.{Option, some}
 use lib.ListN.{length, take}
@@ -28,27 +28,35 @@ use Rattle.promises.proofs.Demand1.{count-told, records-stand}
 use Rattle.promises.proofs.Demand2.{passes}
 
 -- what the streamer does, started on the capture with this scratch, these registers, this kept position and this hardware
-pub record Demand3 (c : Capture) (r : Answer) (new : List ℕ) (kept : Option ℕ) (registers : ℕ → ℕ) (scratch : List ℕ) (hardware : Hardware) : Type 0 where
+pub record Demand3 (c : Capture) (count : ℕ) (records : List ℕ) (kept : Option ℕ) (registers : ℕ → ℕ) (scratch : List ℕ) (hardware : Hardware) : Type 0 where
   pub moments : List Moment
-  -- it ends after exactly the reported number of commands, and has not failed
-  pub ends : runOf (r .count) (mapOf c) hardware (atStart c kept registers scratch) ≡ some moments
+  -- it ends after exactly so many commands, and has not failed
+  pub ends : runOf count (mapOf c) hardware (atStart c kept registers scratch) ≡ some moments
   -- and after no other number
-  pub only : (n : ℕ) (others : List Moment) → runOf n (mapOf c) hardware (atStart c kept registers scratch) ≡ some others → n ≡ r .count
+  pub only : (n : ℕ) (others : List Moment) → runOf n (mapOf c) hardware (atStart c kept registers scratch) ≡ some others → n ≡ count
   -- its commands are those of the records, in order: index, level, row and length
-  pub listed : wordsOf (map (λ x. x .command) moments) ≡ take (r .count) new
+  pub listed : wordsOf (map (λ x. x .command) moments) ≡ records
   -- each word stored lies in scratch, and batch and state are as at the start, after each command
   pub fair : AllFair c moments
 
-pub demand-3 : {c : Capture} {old new : List ℕ} {r : Answer} → Checked c old r new → r .reason ≡ 0
-    → (kept : Option ℕ) (registers : ℕ → ℕ) (scratch : List ℕ) → length scratch ≡ c .scratchBytes / 4 → (hardware : Hardware) → Demand3 c r new kept registers scratch hardware
-demand-3 {c} {old} {new} {r} p accepted kept registers scratch l hardware =
-    let s = streams Unset c (length old) (passes p accepted) kept registers scratch l hardware in
+-- for every starting base: the walk from it is accepted
+pub from-any-base : (base : Base) (c : Capture) (room : ℕ) → endOf (walk base c room) ≡ Pass
+    → (kept : Option ℕ) (registers : ℕ → ℕ) (scratch : List ℕ) → length scratch ≡ c .scratchBytes / 4 → (hardware : Hardware)
+    → Demand3 c (length (commandsOf (walk base c room))) (wordsOf (commandsOf (walk base c room))) kept registers scratch hardware
+from-any-base base c room e kept registers scratch l hardware =
+    let s = streams base c room e kept registers scratch l hardware in
     let m = atStart c kept registers scratch in
-    let e = subst (λ (n : ℕ). runOf n (mapOf c) hardware m ≡ some (s .moments)) (sym (count-told p)) (s .runs) in
     record {
       moments = s .moments;
-      ends = e;
-      only = λ n others q. only-number n (r .count) (mapOf c) hardware 0 m (step (mapOf c) hardware 0 m) q e;
-      listed = ap wordsOf (s .commands) ∙ sym (records-stand p);
+      ends = s .runs;
+      only = λ n others q. only-number n (length (commandsOf (walk base c room))) (mapOf c) hardware 0 m (step (mapOf c) hardware 0 m) q (s .runs);
+      listed = ap wordsOf (s .commands);
       fair = s .fair;
     }
+
+-- THE DEMAND: whatever the promise of `walk::check` says is accepted, with the count that it answers and the records that it leaves
+pub demand-3 : {c : Capture} {old new : List ℕ} {r : Answer} → Checked c old r new → r .reason ≡ 0
+    → (kept : Option ℕ) (registers : ℕ → ℕ) (scratch : List ℕ) → length scratch ≡ c .scratchBytes / 4 → (hardware : Hardware)
+    → Demand3 c (r .count) (take (r .count) new) kept registers scratch hardware
+demand-3 {c} {old} p accepted kept registers scratch l hardware =
+    rw (records-stand p, count-told p) (from-any-base Unset c (length old) (passes p accepted) kept registers scratch l hardware)

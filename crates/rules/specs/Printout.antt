@@ -1,5 +1,7 @@
 -- Document 01, the printout: "prints in decimal the answer, then index, level, row and length per record".
 use Prim.Native.Nat.{ℕ, zero, suc, _+_, _/_, _%_}
+use Prim.Native.Char.{code}
+use Prim.Native.String.{String, [] as noText, _∷_ as _then_}
 use mathlib.Core.Path.{_≡_, refl}
 use mathlib.Core.Bool.{cond}
 use mathlib.Core.List.{List, [], _∷_, _++_}
@@ -19,39 +21,19 @@ digitsOf (suc more) n = cond (ltb n 10) [] (digitsOf more (n / 10)) ++ ((48 + n 
 abbrev pub decimal : ℕ → List ℕ
 decimal n = digitsOf 20 n
 
--- the texts, in ASCII
--- "reason "
-abbrev pub reasonText : List ℕ
-reasonText = 114 ∷ 101 ∷ 97 ∷ 115 ∷ 111 ∷ 110 ∷ 32 ∷ []
+-- "reason 0 window 0 index 0 commands 2": a text as its bytes, in ASCII
+abbrev pub bytes : String → List ℕ
+bytes noText = []
+bytes (c then s) = code c ∷ bytes s
 
--- " window "
-abbrev pub windowText : List ℕ
-windowText = 32 ∷ 119 ∷ 105 ∷ 110 ∷ 100 ∷ 111 ∷ 119 ∷ 32 ∷ []
-
--- " index "
-abbrev pub indexText : List ℕ
-indexText = 32 ∷ 105 ∷ 110 ∷ 100 ∷ 101 ∷ 120 ∷ 32 ∷ []
-
--- " commands "
-abbrev pub commandsText : List ℕ
-commandsText = 32 ∷ 99 ∷ 111 ∷ 109 ∷ 109 ∷ 97 ∷ 110 ∷ 100 ∷ 115 ∷ 32 ∷ []
-
--- what stands between the numbers of the example, " "
-abbrev pub space : List ℕ
-space = 32 ∷ []
-
--- "reason 0 window 0 index 0 commands 2", and then the next line: what ends a line
-abbrev pub lineFeed : List ℕ
-lineFeed = 10 ∷ []
-
--- the answer's line: "reason 0 window 0 index 0 commands 2"
+-- "prints in decimal the answer": its line
 unfoldable pub answerLine : Answer → List ℕ
 answerLine a =
-    reasonText ++ (decimal (a .reason) ++ (windowText ++ (decimal (a .window) ++ (indexText ++ (decimal (a .index) ++ (commandsText ++ (decimal (a .count) ++ lineFeed)))))))
+    bytes "reason " ++ (decimal (a .reason) ++ (bytes " window " ++ (decimal (a .window) ++ (bytes " index " ++ (decimal (a .index) ++ (bytes " commands " ++ (decimal (a .count) ++ bytes "\n")))))))
 
--- a record's line: "index, level, row and length"
+-- "index, level, row and length": a record's line
 unfoldable pub commandLine : Command → List ℕ
-commandLine c = decimal (c .index) ++ (space ++ (decimal (c .level) ++ (space ++ (decimal (c .row) ++ (space ++ (decimal (c .length) ++ lineFeed))))))
+commandLine c = decimal (c .index) ++ (bytes " " ++ (decimal (c .level) ++ (bytes " " ++ (decimal (c .row) ++ (bytes " " ++ (decimal (c .length) ++ bytes "\n"))))))
 
 -- "index, level, row and length per record": the line of one
 abbrev pub recordLine : ℕ → List ℕ
@@ -72,8 +54,6 @@ printed file = let run : Run = fileRun file fileLimit fileLimit (roomOf 4096) in
 
 -- "For batch 00000000h, 05000000h": the document's own example, byte for byte
 pub the-example : printout (record { reason = 0; window = 0; index = 0; count = 2 }) (0x00010000 ∷ 0x01010001 ∷ []) ≡
-    114 ∷ 101 ∷ 97 ∷ 115 ∷ 111 ∷ 110 ∷ 32 ∷ 48 ∷ 32 ∷ 119 ∷ 105 ∷ 110 ∷ 100 ∷ 111 ∷ 119 ∷ 32 ∷ 48 ∷ 32 ∷ 105 ∷ 110 ∷ 100 ∷ 101 ∷ 120 ∷ 32 ∷ 48 ∷ 32 ∷ 99 ∷ 111 ∷ 109 ∷ 109 ∷ 97 ∷ 110 ∷ 100 ∷ 115 ∷ 32 ∷ 50 ∷ 10
-    ∷ 48 ∷ 32 ∷ 48 ∷ 32 ∷ 48 ∷ 32 ∷ 49 ∷ 10
-    ∷ 49 ∷ 32 ∷ 48 ∷ 32 ∷ 49 ∷ 32 ∷ 49 ∷ 10 ∷ []
+    bytes "reason 0 window 0 index 0 commands 2\n0 0 0 1\n1 0 1 1\n"
 unfolding digitsOf answerLine commandLine recordLines printout commandOf
 the-example = refl
