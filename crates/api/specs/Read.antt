@@ -43,10 +43,12 @@ pub record SmallContents (contents : Contents) : Type 0 where
   pub state : contents .state .count < 2 ^ 32
   pub scratch : contents .scratch .bytes < 2 ^ 32
 
+-- the same of what the reader answers: a refusal has no numbers
 abbrev pub Small : Opened → Type 0
 Small (NotRead reason) = Unit {0}
 Small (Holds contents) = SmallContents contents
 
+-- THE PROMISE of `lungevati_read`: its answer, and every word of the two buffers as it returns
 pub record ReadOut (file batch state : List ℕ) (answer : FileContents) (newBatch newState : List ℕ) : Type 0 where
   pub answers : answer ≡ flatOf (openedOf file (length batch) (length state))
   pub batchFilled : newBatch ≡ filledBy (openedOf file (length batch) (length state)) (batchDwords file) batch

@@ -3,6 +3,7 @@ use Prim.Native.Nat.{ℕ}
 use mathlib.Core.List.{List}
 use Rattle.rules.specs.File.{Offer}
 
+-- a file, and the room of the two buffers
 abbrev pub offer : List ℕ → ℕ → ℕ → Offer
 offer file batchRoom stateRoom = record { file = file; batchRoom = batchRoom; stateRoom = stateRoom }
 

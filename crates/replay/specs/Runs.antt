@@ -14,6 +14,7 @@ pub record Moment : Type 0 where
   pub stored : List ℕ
   pub after : Machine
 
+-- "level": its number, as a record has it
 abbrev pub levelOf : Bool → ℕ
 levelOf true = 1
 levelOf false = 0
@@ -24,9 +25,11 @@ commandAt m =
     let header : ℕ = getD (m .batch) (m .at) 0 in
     record { index = m .at; level = levelOf (m .second); row = rowOf header; length = lengthOf (rowOf header) header }
 
+-- the moment of a command and of what it did
 abbrev pub moment : Machine → Effect → Moment
 moment m e = record { command = commandAt m; stored = e .stored; after = e .machine }
 
+-- a moment before those of the rest, if the rest is a run
 abbrev pub more : Moment → Option (List Moment) → Option (List Moment)
 more x none = none
 more x (some xs) = some (x ∷ xs)

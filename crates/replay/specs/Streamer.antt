@@ -26,6 +26,7 @@ pub record Machine : Type 0 where
   pub state : List ℕ
   pub scratch : List ℕ
 
+-- the same, part by part
 abbrev pub machine : ℕ → Bool → Option ℕ → (ℕ → ℕ) → List ℕ → List ℕ → List ℕ → Machine
 machine at second kept registers batch state scratch =
     record { at = at; second = second; kept = kept; registers = registers; batch = batch; state = state; scratch = scratch }
@@ -40,6 +41,7 @@ pub record Effect : Type 0 where
   pub machine : Machine
   pub stored : List ℕ
 
+-- a step: the streamer goes on, it has come to the end of the run, or it "stops .. as failed"
 pub data Step : Type 0 where
   goes : Effect → Step
   ends : Effect → Step
@@ -75,12 +77,14 @@ pub data Place : Type 0 where
   scratchWord : ℕ → Place
   outside : Place
 
+-- the batch is asked first, then the state; where the windows share no byte, at most one of the three has the word
 abbrev pub placed : Option ℕ → Option ℕ → Option ℕ → Place
 placed (some i) s t = batchWord i
 placed none (some i) t = stateWord i
 placed none none (some i) = scratchWord i
 placed none none none = outside
 
+-- "the whole words of the three windows": the place of an address among them
 unfoldable pub placeOf : Map → Machine → ℕ → Place
 placeOf map m address =
     placed (wordAt (map .batchAt) (m .batch) address) (wordAt (map .stateAt) (m .state) address) (wordAt (map .scratchAt) (m .scratch) address)
@@ -104,10 +108,12 @@ abbrev pub noting : ℕ → Option Effect → Option Effect
 noting address none = none
 noting address (some e) = some (record { machine = e .machine; stored = address ∷ e .stored })
 
+-- what is done with the machine after a store, if the store was one
 abbrev pub withMachine : Option Machine → (Machine → Option Effect) → Option Effect
 withMachine none on = none
 withMachine (some m) on = on m
 
+-- "stores its data dwords", "stores a register", "stores 8 bytes": words from an address on
 unfoldable pub storeWords : Map → Machine → ℕ → List ℕ → Option Effect
 storeWords map m address [] = some (record { machine = m; stored = [] })
 storeWords map m address (w ∷ ws) = withMachine (storeTo m w (placeOf map m address)) (λ n. noting address (storeWords map n (address + 4) ws))
@@ -116,9 +122,11 @@ storeWords map m address (w ∷ ws) = withMachine (storeTo m w (placeOf map m ad
 abbrev pub onward : ℕ → Machine → Machine
 onward n m = machine (m .at + n) (m .second) (m .kept) (m .registers) (m .batch) (m .state) (m .scratch)
 
+-- "Other rows only advance."
 abbrev pub advance : ℕ → Machine → Step
 advance n m = goes (record { machine = onward n m; stored = [] })
 
+-- a command that stored, and advances; a store that was none fails
 abbrev pub stores : ℕ → Option Effect → Step
 stores n none = fails
 stores n (some e) = goes (record { machine = onward n (e .machine); stored = e .stored })
@@ -127,6 +135,7 @@ stores n (some e) = goes (record { machine = onward n (e .machine); stored = e .
 abbrev pub update : (ℕ → ℕ) → ℕ → ℕ → ℕ → ℕ
 update registers offset value x = cond (eqb x offset) value (registers x)
 
+-- "registers": the machine with these
 abbrev pub withRegisters : Machine → (ℕ → ℕ) → Machine
 withRegisters m registers = machine (m .at) (m .second) (m .kept) registers (m .batch) (m .state) (m .scratch)
 
@@ -141,6 +150,7 @@ abbrev pub returning : Machine → Option ℕ → Step
 returning m none = fails
 returning m (some back) = goes (record { machine = machine back false (m .kept) (m .registers) (m .batch) (m .state) (m .scratch); stored = [] })
 
+-- "A batch end"
 unfoldable pub endBatch : Machine → Step
 endBatch m = cond (m .second) (returning m (m .kept)) (ends (record { machine = m; stored = [] }))
 
@@ -150,6 +160,7 @@ abbrev pub goingTo : Machine → Bool → ℕ → ℕ → Machine
 goingTo m true next at = machine at true (some next) (m .registers) (m .batch) (m .state) (m .scratch)
 goingTo m false next at = machine at (m .second) (m .kept) (m .registers) (m .batch) (m .state) (m .scratch)
 
+-- "A start"
 unfoldable pub startBatch : Map → Machine → ℕ → ℕ → ℕ → Step
 startBatch map m header next target =
     cond (leb (map .batchAt) target && eqb ((target - map .batchAt) % 4) 0)

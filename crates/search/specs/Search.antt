@@ -17,6 +17,7 @@ wrongAt Bits w r d k j = not (allowed (getD d k 0) (getD (masksOf r) j 0))
 wrongAt Values w r d k j = ruleOf r d j (getD d k 0)
 wrongAt Ranges w r d k j = accessWrong w (addressAt d k) (accessOf r d k j)
 
+-- the same, of the dword k by its number alone
 unfoldable pub wrong : Sought → Windows → ℕ → List ℕ → ℕ → Bool
 wrong what w r d k = wrongAt what w r d k (spot r k)
 
