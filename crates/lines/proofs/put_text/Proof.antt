@@ -3,9 +3,9 @@
 use Prim.Native.Nat.{_-_}
 use lib.ListN.{length}
 use borrow.Author.Needs.{needs}
-use Rattle.printout.proofs.Putting.{Copying, copy-starts, copy-goes-on, copy-ends}
-use Rattle.printout.proofs.put_text.Statement.{statement}
-use Rattle.printout.proofs.put_text.Tie as tie
+use Rattle.lines.proofs.Putting.{Copying, copy-starts, copy-goes-on, copy-ends}
+use Rattle.lines.proofs.put_text.Statement.{statement}
+use Rattle.lines.proofs.put_text.Tie as tie
 
 abbrev Inv-loop : tie.InvT-loop
 Inv-loop out₀ at text i₀ out i = Copying at text out₀ out i

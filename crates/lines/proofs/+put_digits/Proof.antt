@@ -4,13 +4,13 @@ use Prim.Native.Nat.{ℕ, _<_}
 use borrow.Author.Needs.{needs}
 use borrow.Fn.Kinds.{In}
 use borrow.Fn.PlainCycle.{Measures, is, falls, and}
-use Rattle.printout.proofs.Putting.{no-digit, only-digit, last-digit}
-use Rattle.printout.proofs.+put_digits.Lts-put_digits as put-digits-lts
-use Rattle.printout.proofs.put_byte.Reads as put-byte-reads
-use Rattle.printout.proofs.put_digits.Kinds as put-digits-kinds
-use Rattle.printout.proofs.put_digits.Reads as put-digits
-use Rattle.printout.proofs.+put_digits.{statement}
-use Rattle.printout.proofs.+put_digits.Tie.{close}
+use Rattle.lines.proofs.Putting.{no-digit, only-digit, last-digit}
+use Rattle.lines.proofs.+put_digits.Lts-put_digits as put-digits-lts
+use Rattle.lines.proofs.put_byte.Reads as put-byte-reads
+use Rattle.lines.proofs.put_digits.Kinds as put-digits-kinds
+use Rattle.lines.proofs.put_digits.Reads as put-digits
+use Rattle.lines.proofs.+put_digits.{statement}
+use Rattle.lines.proofs.+put_digits.Tie.{close}
 
 abbrev μ-put-digits : Measures 1 put-digits-kinds.ps ℕ
 μ-put-digits κs a = a .1 .1 .0
