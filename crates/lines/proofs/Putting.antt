@@ -27,6 +27,14 @@ then {at} {xs = xs} {ys = ys} {old = old} p q = record {
   written = rw (q .written, p .written, p .ends, sets-append old at xs ys);
 }
 
+-- nothing put
+pub nothing : {at most : ℕ} {old : List ℕ} → Put at most [] old at old
+nothing = record { short = omega arith; ends = omega arith; written = refl }
+
+-- fewer bytes at most are also more at most
+pub at-most : {at m n r : ℕ} {bytes old new : List ℕ} → m ≤ n → Put at m bytes old r new → Put at n bytes old r new
+at-most h p = record { short = omega (arith, p .short); ends = p .ends; written = p .written }
+
 -- a text put byte by byte: the stores that are left, made on what is there, give the whole text
 pub record Copying (at : ℕ) (text old new : List ℕ) (i : ℕ) : Type 0 where
   pub within : i ≤ length text
@@ -58,13 +66,13 @@ module _ (at : ℕ) (text old : List ℕ) where
 module _ {at : ℕ} {old : List ℕ} where
   pub no-digit : (most n : ℕ) → most ≡ 0 → Put at most (digitsOf most n) old at old
   unfolding digitsOf
-  no-digit most n e = rw e (record { short = omega arith; ends = omega arith; written = refl })
+  no-digit most n e = rw e nothing
 
   pub only-digit : (most n : ℕ) {r : ℕ} {new : List ℕ} → (most ≡ 0 → ⊥) → n < 10 → Put at 1 ((48 + n % 10) ∷ []) old r new
       → Put at most (digitsOf most n) old r new
   unfolding digitsOf
   only-digit zero n some l p = absurd (some refl)
-  only-digit (suc more) n some l p = simp (lt-ltb n 10 l) (record { short = omega arith; ends = p .ends; written = p .written })
+  only-digit (suc more) n some l p = simp (lt-ltb n 10 l) (at-most (omega arith) p)
 
   pub last-digit : (most n : ℕ) {k r : ℕ} {mid new : List ℕ} → (most ≡ 0 → ⊥) → 10 ≤ n → Put at (most - 1) (digitsOf (most - 1) (n / 10)) old k mid
       → Put k 1 ((48 + n % 10) ∷ []) mid r new → Put at most (digitsOf most n) old r new

@@ -1,0 +1,5 @@
+pub mod Texts
+pub mod Words
+pub mod Lines
+pub mod Examples
+pub mod Rows
