@@ -8,11 +8,11 @@ use files::UNREAD;
 use files::worse;
 use libc::STDOUT_FILENO;
 use rules::Answer;
-use sentences::line::put;
-use sentences::line::put_number;
-use sentences::words::put_accepted;
-use sentences::words::put_refused;
-use sentences::words::put_unread;
+use sentences::Unread;
+use sentences::accepted_line;
+use sentences::refused_line;
+use sentences::totals_line;
+use sentences::unread_line;
 use std::num::wrapping_add_u64;
 
 // The answer for a capture, and the dword at its place.
@@ -60,19 +60,46 @@ fn write_front(line: &[u8], end: usize) -> bool
     io::write_all(STDOUT_FILENO, &line[..end])
 }
 
-fn write_line(line: &mut [u8; 4608], at: usize) -> bool
-    requires { ⌜ at ≤ 4608 ⌝ }
+fn write_line(line: &[u8; 4608], end: usize) -> bool
+    requires { ⌜ end ≤ 4608 ⌝ }
 {
-    let end = put(line, at, b"\n");
     write_front(line, end)
 }
 
-fn tell(line: &mut [u8; 4608], at: usize, status: u8) -> Told
-    requires { ⌜ at ≤ 4608 ⌝ }
+fn tell(line: &[u8; 4608], end: usize, status: u8) -> Told
+    requires { ⌜ end ≤ 4608 ⌝ }
 {
     Told {
         status,
-        written: write_line(line, at),
+        written: write_line(line, end),
+    }
+}
+
+// What the system's error says.
+fn why(error: i32) -> Unread {
+    if error == libc::ENOENT {
+        return Unread::NoSuchFile;
+    }
+    if error == libc::EACCES {
+        return Unread::NotAllowed;
+    }
+    if error == libc::EISDIR {
+        return Unread::Folder;
+    }
+    if error == libc::ENAMETOOLONG {
+        return Unread::NameTooLong;
+    }
+    Unread::Other
+}
+
+// What is shown of a name: all of it, since the buffer of a name has 4,096 bytes.
+fn shown(name: &[u8]) -> &[u8]
+    ensures { λ r. ⌜ length (now r) ≤ 4096 ⌝ }
+{
+    if name.len() <= 4096 {
+        name
+    } else {
+        &name[..4096]
     }
 }
 
@@ -81,21 +108,19 @@ fn audit_file(name: &mut [u8]) -> Told {
     let mut line = [0u8; 4608];
     let got = files::read_named(name, &mut bytes);
     files::plain(name);
-    let colon = put(&mut line, 0, name);
-    let said = put(&mut line, colon, b": ");
     if !got.whole {
-        let end = put_unread(&mut line, said, got.error);
-        return tell(&mut line, end, UNREAD);
+        let end = unread_line(&mut line, shown(name), why(got.error));
+        return tell(&line, end, UNREAD);
     }
     let n = got.count;
     let found = look(&bytes[..n]);
     let answer = found.answer;
     if answer.reason == 0 {
-        let end = put_accepted(&mut line, said, answer.count);
-        return tell(&mut line, end, ACCEPTED);
+        let end = accepted_line(&mut line, shown(name), answer.count);
+        return tell(&line, end, ACCEPTED);
     }
-    let end = put_refused(&mut line, said, answer, found.dword);
-    tell(&mut line, end, REFUSED)
+    let end = refused_line(&mut line, shown(name), answer, found.dword);
+    tell(&line, end, REFUSED)
 }
 
 fn audit_argument(i: usize) -> Told {
@@ -137,13 +162,8 @@ fn audit_arguments(count: usize) -> Totals {
 
 fn write_totals(t: Totals) -> bool {
     let mut line = [0u8; 4608];
-    let accepted = put_number(&mut line, 0, t.accepted);
-    let refused = put(&mut line, accepted, b" accepted, ");
-    let behind = put_number(&mut line, refused, t.refused);
-    let unread = put(&mut line, behind, b" refused, ");
-    let word = put_number(&mut line, unread, t.unread);
-    let end = put(&mut line, word, b" unread");
-    write_line(&mut line, end)
+    let end = totals_line(&mut line, t.accepted, t.refused, t.unread);
+    write_line(&line, end)
 }
 
 fn main() {
