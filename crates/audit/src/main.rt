@@ -1,18 +1,18 @@
 // A line in plain words for each capture that an argument names, and last the totals.
 ghost use Prim.Native.Nat.{_≤_};
 ghost use lib.ListN.{length};
-use files::ACCEPTED;
-use files::MOST_BYTES;
-use files::REFUSED;
-use files::UNREAD;
-use files::worse;
 use libc::STDOUT_FILENO;
+use reports::ACCEPTED;
+use reports::MOST_BYTES;
+use reports::REFUSED;
+use reports::UNREAD;
+use reports::worse;
 use rules::Answer;
-use sentences::line::put;
-use sentences::line::put_number;
-use sentences::words::put_accepted;
-use sentences::words::put_refused;
-use sentences::words::put_unread;
+use sentences::Unread;
+use sentences::accepted_line;
+use sentences::refused_line;
+use sentences::totals_line;
+use sentences::unread_line;
 use std::num::wrapping_add_u64;
 
 // The answer for a capture, and the dword at its place.
@@ -53,54 +53,105 @@ fn look(file: &[u8]) -> Finding {
     Finding { answer, dword }
 }
 
-// A line is written whole, so that the lines of audits that run side by side do not mix.
 fn write_front(line: &[u8], end: usize) -> bool
     requires { ⌜ end ≤ length (now line) ⌝ }
 {
     io::write_all(STDOUT_FILENO, &line[..end])
 }
 
-fn write_line(line: &mut [u8; 4608], at: usize) -> bool
-    requires { ⌜ at ≤ 4608 ⌝ }
+// A line is written whole, so that the lines of audits that run side by side do not mix.
+fn write_line(line: &[u8; 4608], end: usize) -> bool
+    requires { ⌜ end ≤ 4608 ⌝ }
 {
-    let end = put(line, at, b"\n");
     write_front(line, end)
 }
 
-fn tell(line: &mut [u8; 4608], at: usize, status: u8) -> Told
-    requires { ⌜ at ≤ 4608 ⌝ }
+// Why the system did not give a file.
+fn why() -> Unread {
+    let error = os::errno();
+    if error == libc::ENOENT {
+        return Unread::NoSuchFile;
+    }
+    if error == libc::EACCES {
+        return Unread::NotAllowed;
+    }
+    if error == libc::EISDIR {
+        return Unread::Folder;
+    }
+    if error == libc::ENAMETOOLONG {
+        return Unread::NameTooLong;
+    }
+    Unread::Other
+}
+
+fn tell_unread(name: &[u8]) -> Told
+    requires { ⌜ length (now name) ≤ 4096 ⌝ }
 {
+    let mut line = [0u8; 4608];
+    let end = unread_line(&mut line, name, why());
     Told {
-        status,
-        written: write_line(line, at),
+        status: UNREAD,
+        written: write_line(&line, end),
     }
 }
 
-fn audit_file(name: &mut [u8]) -> Told {
-    let mut bytes = [0u8; MOST_BYTES];
+fn tell_found(name: &[u8], found: Finding) -> Told
+    requires { ⌜ length (now name) ≤ 4096 ⌝ }
+{
     let mut line = [0u8; 4608];
-    let got = files::read_named(name, &mut bytes);
-    files::plain(name);
-    let colon = put(&mut line, 0, name);
-    let said = put(&mut line, colon, b": ");
-    if !got.whole {
-        let end = put_unread(&mut line, said, got.error);
-        return tell(&mut line, end, UNREAD);
-    }
-    let n = got.count;
-    let found = look(&bytes[..n]);
     let answer = found.answer;
     if answer.reason == 0 {
-        let end = put_accepted(&mut line, said, answer.count);
-        return tell(&mut line, end, ACCEPTED);
+        let end = accepted_line(&mut line, name, answer.count);
+        return Told {
+            status: ACCEPTED,
+            written: write_line(&line, end),
+        };
     }
-    let end = put_refused(&mut line, said, answer, found.dword);
-    tell(&mut line, end, REFUSED)
+    let end = refused_line(&mut line, name, answer, found.dword);
+    Told {
+        status: REFUSED,
+        written: write_line(&line, end),
+    }
 }
 
+// Whether a file has ended: only a read that gives nothing shows it.
+fn at_end(fd: i32) -> bool {
+    let mut byte = [0u8; 1];
+    libc::read(fd, &mut byte) == 0
+}
+
+// The line of an open file. A longer file than any capture is not read further.
+fn audit_open(fd: i32, name: &[u8]) -> Told
+    requires { ⌜ length (now name) ≤ 4096 ⌝ }
+{
+    let mut bytes = [0u8; MOST_BYTES];
+    let n = io::read_full(fd, &mut bytes);
+    if n < MOST_BYTES && !at_end(fd) {
+        return tell_unread(name);
+    }
+    tell_found(name, look(&bytes[..n]))
+}
+
+fn audit_file(name: &mut [u8]) -> Told
+    requires { ⌜ length (now name) ≤ 4096 ⌝ }
+{
+    let fd = os::open_read(name);
+    reports::plain(name);
+    if fd < 0 {
+        return tell_unread(name);
+    }
+    let told = audit_open(fd, name);
+    libc::close(fd);
+    told
+}
+
+// An argument that is longer than any path fills the buffer, and no path is as long as that.
 fn audit_argument(i: usize) -> Told {
     let mut name = io::buffer();
-    let n = files::argument(i, &mut name);
+    let n = os::arg(i, &mut name);
+    if os::errno() == libc::ENAMETOOLONG {
+        return audit_file(&mut name);
+    }
     audit_file(&mut name[..n])
 }
 
@@ -137,13 +188,8 @@ fn audit_arguments(count: usize) -> Totals {
 
 fn write_totals(t: Totals) -> bool {
     let mut line = [0u8; 4608];
-    let accepted = put_number(&mut line, 0, t.accepted);
-    let refused = put(&mut line, accepted, b" accepted, ");
-    let behind = put_number(&mut line, refused, t.refused);
-    let unread = put(&mut line, behind, b" refused, ");
-    let word = put_number(&mut line, unread, t.unread);
-    let end = put(&mut line, word, b" unread");
-    write_line(&mut line, end)
+    let end = totals_line(&mut line, t.accepted, t.refused, t.unread);
+    write_line(&line, end)
 }
 
 fn main() {
@@ -153,5 +199,5 @@ fn main() {
     } else {
         UNREAD
     };
-    files::tell(status);
+    io::write_all(3, &reports::status_line(status));
 }

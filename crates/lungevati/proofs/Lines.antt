@@ -6,7 +6,7 @@ use mathlib.Core.List.{List}
 use lib.ListN.{length, length-append}
 use Rattle.io.specs.Counts.{Counts}
 use Rattle.io.proofs.Counting.{counts}
-use Rattle.printout.specs.Lines.{Line}
+use Rattle.lines.specs.Lines.{Line}
 
 pub within : {bytes old new : List ℕ} {n : ℕ} → Line bytes old n new → Counts n new
 within {bytes} {old} {new} {n} l =

@@ -1,53 +1,17 @@
 // The printout, in decimal and ASCII: the line of an answer, and the line of a record.
+use lines::MOST_DIGITS;
+use lines::put_byte;
+use lines::put_digits;
+use lines::put_text;
 use rules::Answer;
 use rules::Command;
 ghost use mathlib.Core.Path.{_≡_};
 ghost use mathlib.Core.List.{[], _∷_, _++_};
-ghost use Prim.Native.Nat.{_+_, _≤_, _<_};
+ghost use Prim.Native.Nat.{_+_, _≤_};
 ghost use lib.ListN.{length};
-ghost use Rattle.rules.specs.Printout.{digitsOf, decimal, answerLine, commandLine, recordLine};
+ghost use Rattle.rules.specs.Printout.{decimal, answerLine, commandLine, recordLine};
 ghost use Rattle.rules.specs.Records.{commandOf};
-ghost use Rattle.printout.specs.Lines.{Put, Line};
-
-// A number of 64 bits has at most 20 digits.
-const MOST_DIGITS: usize = 20;
-
-// One byte at a place. Like every function here that writes, it answers the place behind what it wrote.
-fn put_byte(out: &mut [u8], at: usize, byte: u8) -> usize
-    requires { ⌜ at < length (now out) ⌝ }
-    ensures { λ r. ⌜ Put at 1 (byte ∷ []) (now (out .entry)) r (now (out .exit)) ⌝ }
-{
-    out[at] = byte;
-    at + 1
-}
-
-fn put_text(out: &mut [u8], at: usize, text: &[u8]) -> usize
-    requires { ⌜ at + length (now text) ≤ length (now out) ⌝ }
-    ensures { λ r. ⌜ Put at (length (now (text .entry))) (now (text .entry)) (now (out .entry)) r (now (out .exit)) ⌝ }
-{
-    let mut i = 0;
-    while i < text.len() {
-        out[at + i] = text[i];
-        i += 1;
-    }
-    at + i
-}
-
-// The last `most` digits of n, the highest first and with no leading zero.
-fn put_digits(out: &mut [u8], at: usize, most: usize, n: usize) -> usize
-    requires { ⌜ at + most ≤ length (now out) ⌝ }
-    ensures { λ r. ⌜ Put at most (digitsOf most n) (now (out .entry)) r (now (out .exit)) ⌝ }
-{
-    if most == 0 {
-        return at;
-    }
-    let digit = 48 + (n % 10) as u8;
-    if n < 10 {
-        return put_byte(out, at, digit);
-    }
-    let last = put_digits(out, at, most - 1, n / 10);
-    put_byte(out, last, digit)
-}
+ghost use Rattle.lines.specs.Lines.{Put, Line};
 
 // A number behind its label: "reason 0".
 fn put_labelled(out: &mut [u8], at: usize, label: &[u8], n: u32) -> usize

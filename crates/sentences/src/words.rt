@@ -1,108 +1,84 @@
-// The words of an audit's line.
-ghost use Prim.Native.Nat.{_≤_};
-use crate::line::put;
-use crate::line::put_dword;
-use crate::line::put_number;
-use crate::reasons::put_reason;
-use rules::Answer;
+// The tables of words. A row is filled up with spaces: so a table is one constant, which the check takes in less time than an arm for each text.
+use crate::Unread;
+use lines::put_text;
+ghost use Prim.Native.Nat.{_+_, _≤_};
+ghost use mathlib.Core.Path.{_≡_};
+ghost use lib.ListN.{length};
+ghost use Rattle.lines.specs.Lines.{Put};
+ghost use Rattle.sentences.specs.Rows.{trimmed, Width};
+ghost use Rattle.sentences.specs.Words.{reasonWords, unreadWords};
+
+// What each of document 01's numbers means, from 0 on, which is no reason.
+const REASONS: [[u8; 64]; 22] = [
+    *b"                                                                ",
+    *b"the batch is empty, or a window has over 4,096 dwords           ",
+    *b"a window's address is not a multiple of 4,096                   ",
+    *b"a window ends above 2^48                                        ",
+    *b"two windows share a byte                                        ",
+    *b"65,536 commands did not end the run                             ",
+    *b"the run has not ended there                                     ",
+    *b"no known command starts so                                      ",
+    *b"the command cannot have this length                             ",
+    *b"the command goes past the end of the batch                      ",
+    *b"a bit is set that is not allowed                                ",
+    *b"a second-level batch starts a batch                             ",
+    *b"a value is not allowed                                          ",
+    *b"an address range does not fit                                   ",
+    *b"the base of this pointer was never set                          ",
+    *b"the structure lies in neither the batch nor the state window    ",
+    *b"a bit is set in a structure that is not allowed there           ",
+    *b"a value in a structure is not allowed                           ",
+    *b"the list of commands is full                                    ",
+    *b"the file is shorter than its trailer or longer than any capture ",
+    *b"the length of the file and its trailer do not agree             ",
+    *b"a lent buffer is too short                                      ",
+];
+
+// A number that is no reason has no words.
+pub fn reason_row(reason: u32) -> [u8; 64]
+    ensures { λ r. ⌜ trimmed r ≡ reasonWords reason ⌝ }
+{
+    let i = reason as usize;
+    if i < 22 { REASONS[i] } else { [b' '; 64] }
+}
 
 // Why the system did not give a file.
-fn put_error(line: &mut [u8; 4608], at: usize, error: i32) -> usize
-    requires { ⌜ at ≤ 4608 ⌝ }
-    ensures { λ r. ⌜ r ≤ 4608 ⌝ }
+pub fn unread_row(why: Unread) -> [u8; 64]
+    ensures { λ r. ⌜ trimmed r ≡ unreadWords why ⌝ }
 {
-    if error == libc::ENOENT {
-        return put(line, at, b"there is no such file");
-    }
-    if error == libc::EACCES {
-        return put(line, at, b"it may not be read");
-    }
-    if error == libc::EISDIR {
-        return put(line, at, b"it is a folder");
-    }
-    if error == libc::ENAMETOOLONG {
-        return put(line, at, b"the name is longer than the system takes");
-    }
-    put(line, at, b"it cannot be read")
-}
-
-fn put_commands(line: &mut [u8; 4608], at: usize, count: u32) -> usize
-    requires { ⌜ at ≤ 4608 ⌝ }
-    ensures { λ r. ⌜ r ≤ 4608 ⌝ }
-{
-    let noun = put_number(line, at, count as u64);
-    if count == 1 {
-        put(line, noun, b" command")
-    } else {
-        put(line, noun, b" commands")
+    match why {
+        Unread::NoSuchFile => {
+            *b"there is no such file                                           "
+        }
+        Unread::NotAllowed => {
+            *b"it may not be read                                              "
+        }
+        Unread::Folder => *b"it is a folder                                                  ",
+        Unread::NameTooLong => {
+            *b"the name is longer than the system takes                        "
+        }
+        Unread::Other => *b"it cannot be read                                               ",
     }
 }
 
-fn put_window(line: &mut [u8; 4608], at: usize, window: u32) -> usize
-    requires { ⌜ at ≤ 4608 ⌝ }
-    ensures { λ r. ⌜ r ≤ 4608 ⌝ }
+// How many bytes the words of a row take.
+fn width(row: &[u8]) -> usize
+    ensures { λ r. ⌜ Width (now (row .entry)) r ⌝ }
 {
-    if window == 0 {
-        put(line, at, b" at batch dword ")
-    } else {
-        put(line, at, b" at state dword ")
+    let mut n = row.len();
+    while 0 < n {
+        if row[n - 1] != b' ' {
+            return n;
+        }
+        n -= 1;
     }
+    n
 }
 
-// The place of a fault. At the end of the batch there is no dword.
-fn put_place(line: &mut [u8; 4608], at: usize, answer: Answer, dword: u32) -> usize
-    requires { ⌜ at ≤ 4608 ⌝ }
-    ensures { λ r. ⌜ r ≤ 4608 ⌝ }
+pub fn put_row(line: &mut [u8], at: usize, row: [u8; 64]) -> usize
+    requires { ⌜ at + 64 ≤ length (now line) ⌝ }
+    ensures { λ r. ⌜ Put at 64 (trimmed row) (now (line .entry)) r (now (line .exit)) ⌝ }
 {
-    if answer.reason == 6 {
-        return put(line, at, b" at the end of the batch");
-    }
-    let index = put_window(line, at, answer.window);
-    let open = put_number(line, index, answer.index as u64);
-    let value = put(line, open, b" (");
-    let close = put_dword(line, value, dword);
-    put(line, close, b")")
-}
-
-// How far the walk came. Before 1 to 4 and 19 to 21 there was none.
-fn put_progress(line: &mut [u8; 4608], at: usize, answer: Answer, dword: u32) -> usize
-    requires { ⌜ at ≤ 4608 ⌝ }
-    ensures { λ r. ⌜ r ≤ 4608 ⌝ }
-{
-    if answer.reason < 5 {
-        return at;
-    }
-    if 18 < answer.reason {
-        return at;
-    }
-    let after = put_place(line, at, answer, dword);
-    let count = put(line, after, b" after ");
-    put_commands(line, count, answer.count)
-}
-
-pub fn put_accepted(line: &mut [u8; 4608], at: usize, count: u32) -> usize
-    requires { ⌜ at ≤ 4608 ⌝ }
-    ensures { λ r. ⌜ r ≤ 4608 ⌝ }
-{
-    let number = put(line, at, b"accepted, ");
-    put_commands(line, number, count)
-}
-
-pub fn put_refused(line: &mut [u8; 4608], at: usize, answer: Answer, dword: u32) -> usize
-    requires { ⌜ at ≤ 4608 ⌝ }
-    ensures { λ r. ⌜ r ≤ 4608 ⌝ }
-{
-    let number = put(line, at, b"refused, ");
-    let place = put_number(line, number, answer.reason as u64);
-    let colon = put_progress(line, place, answer, dword);
-    let reason = put(line, colon, b": ");
-    put_reason(line, reason, answer.reason)
-}
-
-pub fn put_unread(line: &mut [u8; 4608], at: usize, error: i32) -> usize
-    requires { ⌜ at ≤ 4608 ⌝ }
-    ensures { λ r. ⌜ r ≤ 4608 ⌝ }
-{
-    let reason = put(line, at, b"unread: ");
-    put_error(line, reason, error)
+    let n = width(&row);
+    put_text(line, at, &row[..n])
 }

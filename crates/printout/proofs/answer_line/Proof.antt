@@ -3,7 +3,7 @@
 use mathlib.Core.List.{append-assoc}
 use borrow.Author.Needs.{needs}
 use Rattle.rules.specs.Printout.{answerLine}
-use Rattle.printout.proofs.Putting.{then, whole}
+use Rattle.lines.proofs.Putting.{then, whole}
 use Rattle.printout.proofs.answer_line.Statement.{statement}
 use Rattle.printout.proofs.answer_line.Tie as tie
 

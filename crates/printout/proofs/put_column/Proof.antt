@@ -1,7 +1,7 @@
 -- `put_column` meets its contract: the byte stands behind the number.
 -- Assumes nothing.
 use borrow.Author.Needs.{needs}
-use Rattle.printout.proofs.Putting.{then}
+use Rattle.lines.proofs.Putting.{then}
 use Rattle.printout.proofs.put_column.Statement.{statement}
 use Rattle.printout.proofs.put_column.Tie as tie
 

@@ -1,7 +1,7 @@
 -- `put_labelled` meets its contract: the number stands behind its label.
 -- Assumes nothing.
 use borrow.Author.Needs.{needs}
-use Rattle.printout.proofs.Putting.{then}
+use Rattle.lines.proofs.Putting.{then}
 use Rattle.printout.proofs.put_labelled.Statement.{statement}
 use Rattle.printout.proofs.put_labelled.Tie as tie
 

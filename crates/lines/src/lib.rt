@@ -1,0 +1,45 @@
+// Putting bytes into a line. Each function puts something at a place and answers the place behind it.
+ghost use mathlib.Core.List.{[], _∷_};
+ghost use Prim.Native.Nat.{_+_, _≤_, _<_};
+ghost use lib.ListN.{length};
+ghost use Rattle.rules.specs.Printout.{digitsOf};
+ghost use Rattle.lines.specs.Lines.{Put};
+
+// A number of 64 bits has at most 20 digits.
+pub const MOST_DIGITS: usize = 20;
+
+pub fn put_byte(out: &mut [u8], at: usize, byte: u8) -> usize
+    requires { ⌜ at < length (now out) ⌝ }
+    ensures { λ r. ⌜ Put at 1 (byte ∷ []) (now (out .entry)) r (now (out .exit)) ⌝ }
+{
+    out[at] = byte;
+    at + 1
+}
+
+pub fn put_text(out: &mut [u8], at: usize, text: &[u8]) -> usize
+    requires { ⌜ at + length (now text) ≤ length (now out) ⌝ }
+    ensures { λ r. ⌜ Put at (length (now (text .entry))) (now (text .entry)) (now (out .entry)) r (now (out .exit)) ⌝ }
+{
+    let mut i = 0;
+    while i < text.len() {
+        out[at + i] = text[i];
+        i += 1;
+    }
+    at + i
+}
+
+// The last `most` digits of n, the highest first and with no leading zero.
+pub fn put_digits(out: &mut [u8], at: usize, most: usize, n: usize) -> usize
+    requires { ⌜ at + most ≤ length (now out) ⌝ }
+    ensures { λ r. ⌜ Put at most (digitsOf most n) (now (out .entry)) r (now (out .exit)) ⌝ }
+{
+    if most == 0 {
+        return at;
+    }
+    let digit = 48 + (n % 10) as u8;
+    if n < 10 {
+        return put_byte(out, at, digit);
+    }
+    let last = put_digits(out, at, most - 1, n / 10);
+    put_byte(out, last, digit)
+}

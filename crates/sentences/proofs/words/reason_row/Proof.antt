@@ -1,0 +1,25 @@
+-- `reason_row` meets its contract: each row of the constant holds the words of the table, which is one computation.
+-- Assumes nothing.
+use borrow.Author.Needs.{needs}
+use Rattle.sentences.specs.Words.{reasonTable}
+use Rattle.sentences.specs.Rows.{trimmed}
+use Rattle.sentences.proofs.Trimming.{filled, reasonRows, row-says, past-the-table}
+use Rattle.sentences.proofs.words.reason_row.Statement.{statement}
+use Rattle.sentences.proofs.words.reason_row.Tie as tie
+
+mul-result : tie.Need-mul-result
+mul-result c = search needs
+
+array-copy-out-result : tie.Need-array-copy-out-result
+array-copy-out-result c = search needs
+
+returns : tie.Need-returns
+unfolding reasonTable filled reasonRows
+returns c = row-says _
+
+returns-2 : tie.Need-returns-2
+unfolding trimmed
+returns-2 c = past-the-table _ (search needs)
+
+pub reason-row-spec : {M : Type 1} → statement M
+reason-row-spec = tie.close (tie.spec mul-result array-copy-out-result returns returns-2)

@@ -1,0 +1,5 @@
+pub mod Hexadecimal
+pub mod Words
+pub mod Lines
+pub mod Examples
+pub mod Rows
