@@ -78,10 +78,9 @@ module _ {at : ℕ} {old : List ℕ} where
       → Put k 1 ((48 + n % 10) ∷ []) mid r new → Put at most (digitsOf most n) old r new
   unfolding digitsOf
   last-digit zero n some l p q = absurd (some refl)
-  last-digit (suc more) n {r = r} {new = new} some l p q =
+  last-digit (suc more) n some l p q =
       let e : suc more - 1 ≡ more = omega arith in
-      let f : more + 1 ≡ suc more = omega arith in
-      simp (le-ltb n 10 l) (rw f at (then (rw e at p) q))
+      simp (le-ltb n 10 l) (at-most (omega arith) (then (rw e at p) q))
 
 -- a line put from its first byte on
 pub whole : {m r : ℕ} {line old new : List ℕ} → m ≤ length old → Put 0 m line old r new → Line line old r new

@@ -1,12 +1,12 @@
 -- Putting hexadecimal digits: none, or one behind those of the sixteenth.
 -- Assumes nothing.
-use Prim.Native.Nat.{ℕ, zero, suc, _+_, _-_, _/_, _%_}
+use Prim.Native.Nat.{ℕ, zero, suc, _-_, _/_, _%_}
 use native.Mathlib.Omega.{arith}
 use mathlib.Core.Path.{_≡_, refl}
 use mathlib.Core.List.{List, [], _∷_}
 use Rattle.lines.specs.Lines.{Put}
-use Rattle.lines.proofs.Putting.{nothing, then}
-use Rattle.sentences.specs.Hexadecimal.{hexDigit, hexDigits}
+use Rattle.lines.proofs.Putting.{nothing, then, at-most}
+use Rattle.sentences.specs.Texts.{hexDigit, hexDigits}
 
 module _ {at : ℕ} {old : List ℕ} where
   pub no-digit : (count n : ℕ) → count ≡ 0 → Put at count (hexDigits count n) old at old
@@ -19,5 +19,4 @@ module _ {at : ℕ} {old : List ℕ} where
   last-digit zero n some p d q = absurd (some refl)
   last-digit (suc more) n some p d q =
       let e : suc more - 1 ≡ more = omega arith in
-      let f : more + 1 ≡ suc more = omega arith in
-      rw f at (then (rw e at p) (rw d at q))
+      at-most (omega arith) (then (rw e at p) (rw d at q))

@@ -1,4 +1,5 @@
-// The parts of a line: each is put at a place, and the place behind it comes back.
+// The parts of a line: each is put at a place, and the place behind it comes back. The number in a contract is how many bytes the part
+// has at most: 20 for a number, and its words.
 use lines::MOST_DIGITS;
 use lines::put_byte;
 use lines::put_digits;

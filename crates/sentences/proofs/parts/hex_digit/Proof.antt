@@ -6,15 +6,6 @@ use Rattle.sentences.specs.Hexadecimal.{hexDigit}
 use Rattle.sentences.proofs.parts.hex_digit.Statement.{statement}
 use Rattle.sentences.proofs.parts.hex_digit.Tie as tie
 
-cast-low : tie.Need-cast-low
-cast-low c = search needs
-
-add-result : tie.Need-add-result
-add-result c = search needs
-
-add-result-2 : tie.Need-add-result-2
-add-result-2 c = search needs
-
 returns : tie.Need-returns
 unfolding hexDigit
 returns c = simp (lt-ltb _ _ (c .if1 .taken))
@@ -24,4 +15,4 @@ unfolding hexDigit
 returns-2 c = simp (le-ltb _ _ (c .if1 .left))
 
 pub hex-digit-spec : {M : Type 1} → statement M
-hex-digit-spec = tie.close (tie.spec cast-low add-result add-result-2 returns returns-2)
+hex-digit-spec = tie.close (tie.spec (λ c. search needs) (λ c. search needs) (λ c. search needs) returns returns-2)

@@ -15,35 +15,17 @@ returns-2 : tie.Need-returns-2
 unfolding progressText
 returns-2 c = simp (le-ltb _ _ (c .before .before .if1 .left), lt-ltb _ _ (c .if2 .taken)) nothing
 
-put-place-requires : tie.Need-put-place-requires
-put-place-requires c κs = search needs
-
-slice-aggregate-put-text : tie.Need-slice-aggregate-put-text
-slice-aggregate-put-text c = search needs
-
-put-text-requires : tie.Need-put-text-requires
-put-text-requires c κs = search needs
-
-put-commands-requires : tie.Need-put-commands-requires
-put-commands-requires c κs = search needs
-
-same-length : tie.Need-same-length
-same-length c = search needs
-
 returns-3 : tie.Need-returns-3
-unfolding progressText
-returns-3 c = simp (le-ltb _ _ (c .before .before .before .before .before .before .before .before .before .before .before .before .before .before .before .if1 .left), le-ltb _ _ (c .before .before .before .before .before .before .before .before .before .before .before .before .before .if2 .left))
-    (then (then (c .before .before .before .before .before .before .before .before .before .before .before .put-place .ensures) (c .before .before .before .before .before .before .put-text .ensures)) (c .before .before .put-commands .ensures))
+unfolding text progressText
+returns-3 c =
+    let count = c .before .before in
+    let after = count .before .before .before .before in
+    let place = after .before .before .before .before .before in
+    let test = place .before .before in
+    simp (le-ltb _ _ (test .before .before .if1 .left), le-ltb _ _ (test .if2 .left))
+    (then (then (place .put-place .ensures) (after .put-text .ensures)) (count .put-commands .ensures))
 
 pub put-progress-spec : {M : Type 1} → statement M
 put-progress-spec =
     tie.close
-    (tie.spec
-    returns
-    returns-2
-    put-place-requires
-    slice-aggregate-put-text
-    put-text-requires
-    put-commands-requires
-    same-length
-    returns-3)
+    (tie.spec returns returns-2 (λ c κs. search needs) (λ c. search needs) (λ c κs. search needs) (λ c κs. search needs) (λ c. search needs) returns-3)

@@ -9,15 +9,6 @@ use Rattle.sentences.proofs.Trimming.{front-counts}
 use Rattle.sentences.proofs.words.put_row.Statement.{statement}
 use Rattle.sentences.proofs.words.put_row.Tie as tie
 
-slice-aggregate-width : tie.Need-slice-aggregate-width
-slice-aggregate-width c = search needs
-
-width-requires : tie.Need-width-requires
-width-requires c κs = search needs
-
-array-share-prefix-row : tie.Need-array-share-prefix-row
-array-share-prefix-row c = search needs
-
 slice-aggregate-put-text : tie.Need-slice-aggregate-put-text
 slice-aggregate-put-text c = sym (front-counts (c .before .before .width .ensures))
 
@@ -27,11 +18,9 @@ put-text-requires c κs =
     let front = front-counts (c .before .before .width .ensures) in
     omega (arith, c .before .before .width .ensures .within)
 
-same-length : tie.Need-same-length
-same-length c = search needs
-
 returns : tie.Need-returns
-returns c = let found = c .before .before .before .before .before .width .ensures in
+returns c =
+    let found = c .before .before .before .before .before .width .ensures in
     let row : 64 ≡ length (c .before .before .before .before .before .before .before .before .args .t3) = search needs in
     let front = front-counts found in
     rw (found .words) at (at-most {n = 64} (omega (arith, found .within)) (c .before .before .put-text .ensures))
@@ -39,11 +28,4 @@ returns c = let found = c .before .before .before .before .before .width .ensure
 pub put-row-spec : {M : Type 1} → statement M
 put-row-spec =
     tie.close
-    (tie.spec
-    slice-aggregate-width
-    width-requires
-    array-share-prefix-row
-    slice-aggregate-put-text
-    put-text-requires
-    same-length
-    returns)
+    (tie.spec (λ c. search needs) (λ c κs. search needs) (λ c. search needs) slice-aggregate-put-text put-text-requires (λ c. search needs) returns)

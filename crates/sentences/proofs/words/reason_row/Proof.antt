@@ -7,12 +7,6 @@ use Rattle.sentences.proofs.Trimming.{filled, reasonRows, row-says, pas
 use Rattle.sentences.proofs.words.reason_row.Statement.{statement}
 use Rattle.sentences.proofs.words.reason_row.Tie as tie
 
-mul-result : tie.Need-mul-result
-mul-result c = search needs
-
-array-copy-out-result : tie.Need-array-copy-out-result
-array-copy-out-result c = search needs
-
 returns : tie.Need-returns
 unfolding reasonTable filled reasonRows
 returns c = row-says _
@@ -22,4 +16,4 @@ unfolding trimmed
 returns-2 c = past-the-table _ (search needs)
 
 pub reason-row-spec : {M : Type 1} → statement M
-reason-row-spec = tie.close (tie.spec mul-result array-copy-out-result returns returns-2)
+reason-row-spec = tie.close (tie.spec (λ c. search needs) (λ c. search needs) returns returns-2)

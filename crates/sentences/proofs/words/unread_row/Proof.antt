@@ -6,21 +6,6 @@ use Rattle.sentences.specs.Rows.{trimmed}
 use Rattle.sentences.proofs.words.unread_row.Statement.{statement}
 use Rattle.sentences.proofs.words.unread_row.Tie as tie
 
-enum-told : tie.Need-enum-told
-enum-told c = search needs
-
-enum-told-2 : tie.Need-enum-told-2
-enum-told-2 c = search needs
-
-enum-told-3 : tie.Need-enum-told-3
-enum-told-3 c = search needs
-
-enum-told-4 : tie.Need-enum-told-4
-enum-told-4 c = search needs
-
-enum-told-5 : tie.Need-enum-told-5
-enum-told-5 c = search needs
-
 returns : tie.Need-returns
 unfolding unreadWords trimmed
 returns c = rw (c .before .before .enum-told .given .1)
@@ -44,14 +29,4 @@ returns-5 c = rw (c .before .before .enum-told5 .given .1)
 pub unread-row-spec : {M : Type 1} → statement M
 unread-row-spec =
     tie.close
-    (tie.spec
-    enum-told
-    enum-told-2
-    enum-told-3
-    enum-told-4
-    enum-told-5
-    returns
-    returns-2
-    returns-3
-    returns-4
-    returns-5)
+    (tie.spec (λ c. search needs) (λ c. search needs) (λ c. search needs) (λ c. search needs) (λ c. search needs) returns returns-2 returns-3 returns-4 returns-5)
