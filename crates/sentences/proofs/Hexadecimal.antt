@@ -6,7 +6,7 @@ use mathlib.Core.Path.{_≡_, refl}
 use mathlib.Core.List.{List, [], _∷_}
 use Rattle.lines.specs.Lines.{Put}
 use Rattle.lines.proofs.Putting.{nothing, then, at-most}
-use Rattle.sentences.specs.Texts.{hexDigit, hexDigits}
+use Rattle.sentences.specs.Hexadecimal.{hexDigit, hexDigits}
 
 module _ {at : ℕ} {old : List ℕ} where
   pub no-digit : (count n : ℕ) → count ≡ 0 → Put at count (hexDigits count n) old at old

@@ -7,7 +7,7 @@ use Rattle.sentences.proofs.parts.put_dword.Statement.{statement}
 use Rattle.sentences.proofs.parts.put_dword.Tie as tie
 
 returns : tie.Need-returns
-unfolding text dwordText
+unfolding dwordText
 returns c =
     let close = c .before .before in
     let digits = close .before .before .before .before .before in

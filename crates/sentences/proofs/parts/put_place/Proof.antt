@@ -12,7 +12,7 @@ unfolding placeText
 returns c = simp (eq-eqb _ _ (c .before .before .before .before .before .if1 .taken)) (at-most (search needs) (c .before .before .put-text .ensures))
 
 returns-2 : tie.Need-returns-2
-unfolding text placeText
+unfolding placeText
 returns-2 c =
     let dword = c .before .before in
     let index = dword .before .before .before .before in

@@ -16,7 +16,7 @@ unfolding progressText
 returns-2 c = simp (le-ltb _ _ (c .before .before .if1 .left), lt-ltb _ _ (c .if2 .taken)) nothing
 
 returns-3 : tie.Need-returns-3
-unfolding text progressText
+unfolding progressText
 returns-3 c =
     let count = c .before .before in
     let after = count .before .before .before .before in
