@@ -36,7 +36,7 @@ pub fn fails(reason: Reason, index: usize) -> Verdict
 }
 
 // Whether the row is a batch start, and the walk in a second-level batch.
-fn is_nested(row: usize, level: Level) -> bool
+pub fn is_nested(row: usize, level: Level) -> bool
     ensures { λ r. ⌜ r ≡ nested row level ⌝ }
 {
     match level {

@@ -8,14 +8,12 @@ ghost use Rattle.rules.specs.Formats.{surfaceFormats};
 ghost use Rattle.rules.specs.Step.{stepOf};
 ghost use Rattle.search.specs.Search.{maskTable};
 ghost use Rattle.step.specs.Parts.{captured, Fitted, SmallBase};
-use faults::content_fault;
 use faults::pointer_of;
 use faults::structure_fault;
+use looks::Look;
+use looks::looked;
 use moves::level_number;
 use moves::move_of;
-use rows::ROWS;
-use rows::length_of;
-use rows::length_right;
 use rows::row_of;
 use rules::Command;
 use rules::Cursor;
@@ -26,6 +24,7 @@ use rules::Verdict;
 use rules::Windows;
 
 mod faults;
+pub mod looks;
 mod moves;
 
 // A refusal at the header.
@@ -57,33 +56,24 @@ pub fn step<'a>(
     if batch.len() <= at {
         return refused(Reason::RanOff, at);
     }
-    let header = batch[at];
-    let row = row_of(header);
-    if ROWS <= row {
-        return refused(Reason::UnknownHeader, at);
+    let row = row_of(batch[at]);
+    match looked(batch, w, row, at, level, masks, formats) {
+        Look::Wrong(f) => Outcome::Refused(f),
+        Look::Whole(length) => {
+            let next = at + length;
+            let command = &batch[at..next];
+            let pointer = pointer_of(row, command);
+            if let Verdict::Fails(f) = structure_fault(batch, state, w, pointer, base, at + 1) {
+                return Outcome::Refused(f);
+            }
+            let after = move_of(w.batch.at, s, row, command, next);
+            let taken = Command {
+                index: at,
+                level: level_number(level),
+                row,
+                length,
+            };
+            Outcome::Taken(taken, after)
+        }
     }
-    if !length_right(row, header) {
-        return refused(Reason::WrongLength, at);
-    }
-    let length = length_of(row, header);
-    if batch.len() - at < length {
-        return refused(Reason::PastTheWindow, at);
-    }
-    let next = at + length;
-    let command = &batch[at..next];
-    if let Verdict::Fails(f) = content_fault(w, row, command, at, level, masks, formats) {
-        return Outcome::Refused(f);
-    }
-    let pointer = pointer_of(row, command);
-    if let Verdict::Fails(f) = structure_fault(batch, state, w, pointer, base, at + 1) {
-        return Outcome::Refused(f);
-    }
-    let after = move_of(w.batch.at, s, row, command, next);
-    let taken = Command {
-        index: at,
-        level: level_number(level),
-        row,
-        length,
-    };
-    Outcome::Taken(taken, after)
 }

@@ -67,13 +67,45 @@ fn run<'a>(
                         return acceptance(n);
                     }
                     After::To(t) => {
-                        s = t;
+                        s = fresh(t);
                     }
                 }
             }
         }
     }
     refusal(spent(s.at), n)
+}
+
+fn fresh_level(level: Level) -> Level
+    ensures { λ r. ⌜ r ≡ level ⌝ }
+{
+    match level {
+        Level::First => Level::First,
+        Level::Second(back) => Level::Second(back),
+    }
+}
+
+fn fresh_base(base: Base) -> Base
+    ensures { λ r. ⌜ r ≡ base ⌝ }
+{
+    match base {
+        Base::Unset => Base::Unset,
+        Base::Set(b) => Base::Set(b),
+    }
+}
+
+// The cursor, made anew from its parts. A copy would carry the bytes between an enum's tag and its number from turn to turn, which costs
+// more than the step itself; made anew, they are never written.
+fn fresh(s: Cursor) -> Cursor
+    ensures { λ r. ⌜ r ≡ s ⌝ }
+{
+    let level = s.level;
+    let base = s.base;
+    Cursor {
+        at: s.at,
+        level: fresh_level(level),
+        base: fresh_base(base),
+    }
 }
 
 // There is no room for the record of the command at the position.

@@ -5,6 +5,7 @@ ghost use mathlib.Core.Path.{_≡_};
 ghost use Prim.Native.Nat.{_+_, _≤_};
 ghost use lib.Dec.{ltb};
 ghost use lib.ListN.{length, take, drop};
+ghost use Rattle.rules.specs.declared.Allowed.the-variants.{AnyWindow};
 ghost use Rattle.rules.specs.declared.Verdict.the-variants.{Fails};
 ghost use Rattle.rules.specs.Words.{some, someTwo};
 ghost use Rattle.rules.specs.Refusals.{fault, inBatch};
@@ -110,6 +111,19 @@ pub fn sound(batch_count: usize, state_count: usize, w: Windows) -> Verdict
     Verdict::Pass
 }
 
+// Whether all the bytes lie in some window. Left at the first that holds them, since each test has several ways out.
+fn anywhere(w: Windows, address: u64, bytes: u64) -> bool
+    ensures { λ r. ⌜ r ≡ fits w AnyWindow address bytes ⌝ }
+{
+    if words::holds(w.batch, address, bytes) {
+        return true;
+    }
+    if words::holds(w.state, address, bytes) {
+        return true;
+    }
+    words::holds(w.scratch, address, bytes)
+}
+
 // Whether all the bytes lie in one of the windows that the rule names.
 pub fn fits(w: Windows, allowed: Allowed, address: u64, bytes: u64) -> bool
     ensures { λ r. ⌜ r ≡ fits w allowed address bytes ⌝ }
@@ -117,10 +131,7 @@ pub fn fits(w: Windows, allowed: Allowed, address: u64, bytes: u64) -> bool
     match allowed {
         Allowed::BatchOnly => words::holds(w.batch, address, bytes),
         Allowed::ScratchOnly => words::holds(w.scratch, address, bytes),
-        Allowed::AnyWindow => {
-            words::holds(w.batch, address, bytes)
-                | (words::holds(w.state, address, bytes) | words::holds(w.scratch, address, bytes))
-        }
+        Allowed::AnyWindow => anywhere(w, address, bytes),
     }
 }
 

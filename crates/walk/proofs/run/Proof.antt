@@ -5,6 +5,7 @@ use Prim.Native.Nat.{_-_}
 use native.Mathlib.Omega.{arith}
 use mathlib.Core.Path.{_≡_, refl, sym, ap, _∙_}
 use borrow.Author.Needs.{needs}
+use Rattle.rules.specs.declared.After.the-variants.{To}
 use Rattle.rules.specs.declared.Outcome.the-variants.{Taken}
 use Rattle.rules.specs.Formats.{surfaceFormats}
 use Rattle.rules.specs.Commands.{rows, theRow, masksOf}
@@ -95,8 +96,11 @@ enum-known-after c = search needs
 loop-less : tie.Need-loop-less Inv-loop μ-loop
 loop-less c = omega arith
 
+fresh-requires : tie.Need-fresh-requires Inv-loop μ-loop
+fresh-requires c κs = search needs
+
 loop-again : tie.Need-loop-again Inv-loop μ-loop
-loop-again c = rw (c .before .before .before .before .before .write-record .ensures, tail-written (c .before .before .before .before .before .before .before .before .before .before .before .before .before .before .before .before .loop .n) _ (c .before .before .before .before .before .before .before .before .before .before .before .before .before .before .before .before .loop .records) (omega arith), c .before .before .before .before .before .before .record-of .ensures) (next (c .before .before .before .before .before .before .before .before .before .before .before .before .before .before .before .before .loop .inv) (omega arith) (omega arith) ((sym (c .before .before .before .before .before .before .before .before .before .before .before .before .step .ensures) ∙ c .before .before .before .before .before .before .before .before .before .before .command .given .1) ∙ ap (Taken (c .before .before .before .before .before .before .before .before .before .before .command .given .0 .0)) (c .before .after .given .1)))
+loop-again c = rw (c .before .before .before .before .before .before .write-record .ensures, tail-written (c .before .before .before .before .before .before .before .before .before .before .before .before .before .before .before .before .before .loop .n) _ (c .before .before .before .before .before .before .before .before .before .before .before .before .before .before .before .before .before .loop .records) (omega arith), c .before .before .before .before .before .before .before .record-of .ensures) (next (c .before .before .before .before .before .before .before .before .before .before .before .before .before .before .before .before .before .loop .inv) (omega arith) (omega arith) ((sym (c .before .before .before .before .before .before .before .before .before .before .before .before .before .step .ensures) ∙ c .before .before .before .before .before .before .before .before .before .before .before .command .given .1) ∙ ap (Taken (c .before .before .before .before .before .before .before .before .before .before .before .command .given .0 .0)) (c .before .before .after .given .1 ∙ ap To (sym (c .fresh .ensures)))))
 
 spent-requires : tie.Need-spent-requires Inv-loop μ-loop
 spent-requires c κs = search needs
@@ -139,6 +143,7 @@ run-spec =
     same-length-3
     returns-3
     enum-known-after
+    fresh-requires
     loop-less
     loop-again
     spent-requires

@@ -16,18 +16,10 @@ unfolding some windowsAllowed fits
 returns-2 c = simp (c .before .enum-told2 .given .1, or-false) (c .holds2 .ensures)
 
 returns-3 : tie.Need-returns-3
-unfolding some windowsAllowed fits
-returns-3 c =
-    simp (
-      c .before .before .before .enum-told3 .given .1,
-      c .before .before .holds3 .ensures,
-      c .before .holds4 .ensures,
-      c .holds5 .ensures,
-      or-false,
-    )
+returns-3 c = simp (c .before .enum-told3 .given .1) (c .anywhere .ensures)
 
 pub fits-spec : {M : Type 1} → statement M
 fits-spec =
     tie.close
     (tie.spec (λ c. search needs) (λ c κs. search needs) (λ c. search needs) (λ c κs. search needs) (λ c. search needs)
-    (λ c κs. search needs) (λ c κs. search needs) (λ c κs. search needs) returns returns-2 returns-3)
+    (λ c κs. search needs) returns returns-2 returns-3)

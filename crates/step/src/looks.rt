@@ -1,0 +1,92 @@
+// The checks 7 to 13 of the command at a position: the quick look first, which most commands pass, and else the search for what is wrong.
+ghost use mathlib.Core.Path.{_≡_};
+ghost use Prim.Native.Nat.{_<_};
+ghost use lib.ListN.{length};
+ghost use Rattle.rules.specs.Refusals.{fault, inBatch};
+ghost use Rattle.rules.specs.Formats.{surfaceFormats};
+ghost use Rattle.rules.specs.Step.{rowAt};
+ghost use Rattle.search.specs.Search.{maskTable};
+ghost use Rattle.step.specs.declared.looks.Look.the-variants.{Wrong};
+ghost use Rattle.step.specs.Looks.{lookOf};
+use crate::faults::content_fault;
+use crate::faults::is_nested;
+use quick::quick;
+use rows::ROWS;
+use rows::length_of;
+use rows::length_right;
+use rules::Fault;
+use rules::Level;
+use rules::Reason;
+use rules::Verdict;
+use rules::Windows;
+
+// What the checks 7 to 13 leave: the command's length, or its first fault.
+pub enum Look {
+    Whole(usize),
+    Wrong(Fault),
+}
+
+fn wrong(reason: Reason, index: usize) -> Look
+    ensures { λ r. ⌜ r ≡ Wrong (fault reason inBatch index) ⌝ }
+{
+    Look::Wrong(Fault {
+        reason,
+        window: 0,
+        index,
+    })
+}
+
+// By the checks one after the other, which name the fault and its place.
+fn searched(
+    batch: &[u32],
+    w: Windows,
+    row: usize,
+    at: usize,
+    level: Level,
+    masks: &[[u32; 16]; 17],
+    formats: &[u16; 512],
+) -> Look
+    requires { ⌜ (at < length (now batch)) × (row ≡ rowAt (now batch) at) × (now masks ≡ maskTable) × (now formats ≡ surfaceFormats) ⌝ }
+    ensures { λ r. ⌜ r ≡ lookOf w (now (batch .entry)) at level ⌝ }
+{
+    if ROWS <= row {
+        return wrong(Reason::UnknownHeader, at);
+    }
+    let header = batch[at];
+    if !length_right(row, header) {
+        return wrong(Reason::WrongLength, at);
+    }
+    let length = length_of(row, header);
+    if batch.len() - at < length {
+        return wrong(Reason::PastTheWindow, at);
+    }
+    let next = at + length;
+    let command = &batch[at..next];
+    match content_fault(w, row, command, at, level, masks, formats) {
+        Verdict::Fails(f) => Look::Wrong(f),
+        Verdict::Pass => Look::Whole(length),
+    }
+}
+
+// By the quick look. What passes it can only be a start that is nested (11).
+pub fn looked(
+    batch: &[u32],
+    w: Windows,
+    row: usize,
+    at: usize,
+    level: Level,
+    masks: &[[u32; 16]; 17],
+    formats: &[u16; 512],
+) -> Look
+    requires { ⌜ (at < length (now batch)) × (row ≡ rowAt (now batch) at) × (now masks ≡ maskTable) × (now formats ≡ surfaceFormats) ⌝ }
+    ensures { λ r. ⌜ r ≡ lookOf w (now (batch .entry)) at level ⌝ }
+{
+    let length = quick(w, row, &batch[at..], formats);
+    if length == 0 {
+        return searched(batch, w, row, at, level, masks, formats);
+    }
+    if is_nested(row, level) {
+        return wrong(Reason::NestedStart, at);
+    }
+    Look::Whole(length)
+}

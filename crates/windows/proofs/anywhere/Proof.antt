@@ -1,0 +1,32 @@
+-- `windows::anywhere` meets its contract, by that of `words::holds` for each window.
+-- Assumes nothing.
+use borrow.Author.Needs.{needs}
+use mathlib.Core.Path.{sym, _∙_}
+use mathlib.Core.Bool.{or-true, or-false}
+use Rattle.rules.specs.Words.{some}
+use Rattle.rules.specs.Windows.{windowsAllowed, fits}
+use Rattle.windows.proofs.anywhere.Statement.{statement}
+use Rattle.windows.proofs.anywhere.Tie as tie
+
+returns : tie.Need-returns
+unfolding some windowsAllowed fits
+returns c = simp (sym (c .before .holds .ensures) ∙ c .if1 .taken)
+
+returns-2 : tie.Need-returns-2
+unfolding some windowsAllowed fits
+returns-2 c = simp (sym (c .before .holds2 .ensures) ∙ c .if2 .taken, or-true)
+
+returns-3 : tie.Need-returns-3
+unfolding some windowsAllowed fits
+returns-3 c =
+    simp (
+      c .holds3 .ensures,
+      sym (c .before .before .holds2 .ensures) ∙ c .before .if2 .left,
+      sym (c .before .before .before .before .holds .ensures) ∙ c .before .before .before .if1 .left,
+      or-false,
+    )
+
+pub anywhere-spec : {M : Type 1} → statement M
+anywhere-spec =
+    tie.close
+    (tie.spec (λ c κs. search needs) returns (λ c κs. search needs) returns-2 (λ c κs. search needs) returns-3)
