@@ -4,7 +4,7 @@ use Prim.Native.Nat.{ℕ, zero, suc, _+_, _-_, _/_, _%_, _<_, _≤_}
 use native.Mathlib.Nat.{add-zero, zero-add}
 use native.Mathlib.Numerals.{add-one}
 use native.Mathlib.Omega.{arith}
-use mathlib.Core.Path.{_≡_, refl, sym, _∙_}
+use mathlib.Core.Path.{_≡_, refl, _∙_}
 use mathlib.Core.List.{List, [], _∷_, _++_}
 use lib.ListN.{length, getD, drop, set, length-append, length-set, drop-of-length-le}
 use lib.Seq.{sets, sets-eq, drop-cons}
@@ -89,7 +89,3 @@ whole {line = line} {old = old} h p = record {
   counts = omega (arith, p .ends);
   written = p .written ∙ sets-eq line old 0 (omega (arith, p .short)) ∙ rw zero-add;
 }
-
--- a line admits one answer only
-pub one-line : {r r′ : ℕ} {line old new new′ : List ℕ} → Line line old r new → Line line old r′ new′ → (r ≡ r′) × (new ≡ new′)
-one-line p q = (p .counts ∙ sym (q .counts), p .written ∙ sym (q .written))

@@ -6,7 +6,7 @@ use mathlib.Core.List.{List}
 use Rattle.rules.specs.declared.Answer.{Answer}
 use Rattle.rules.specs.Printout.{answerLine, recordLine}
 use Rattle.lines.specs.Lines.{Line}
-use Rattle.lines.proofs.Putting.{one-line}
+use Rattle.lines.proofs.Unique.{one-line}
 
 module _ {old new new′ : List ℕ} {r r′ : ℕ} where
   pub answer-line-unique : (answer : Answer) → Line (answerLine answer) old r new → Line (answerLine answer) old r′ new′ → (r ≡ r′) × (new ≡ new′)

@@ -5,7 +5,7 @@ use mathlib.Core.Path.{_≡_}
 use mathlib.Core.List.{List}
 use Rattle.rules.specs.declared.Answer.{Answer}
 use Rattle.lines.specs.Lines.{Line}
-use Rattle.lines.proofs.Putting.{one-line}
+use Rattle.lines.proofs.Unique.{one-line}
 use Rattle.sentences.specs.declared.Unread.{Unread}
 use Rattle.sentences.specs.Lines.{acceptedLine, refusedLine, unreadLine, totalsLine}
 
