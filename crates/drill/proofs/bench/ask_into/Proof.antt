@@ -1,0 +1,69 @@
+-- `ask_into` is safe: what is lent lies within the dwords and the records.
+-- Assumes nothing.
+use borrow.Author.Needs.{needs}
+use lib.Seq.{length-take-le}
+use mathlib.Core.Path.{sym}
+use native.Mathlib.Omega.{arith}
+use Rattle.drill.proofs.bench.ask_into.Statement.{statement}
+use Rattle.drill.proofs.bench.ask_into.Tie as tie
+
+at-most-requires : tie.Need-at-most-requires
+at-most-requires c κs = search needs
+
+at-most-requires-2 : tie.Need-at-most-requires-2
+at-most-requires-2 c κs = search needs
+
+add-end : tie.Need-add-end
+add-end c = search needs
+
+at-most-requires-3 : tie.Need-at-most-requires-3
+at-most-requires-3 c κs = search needs
+
+slice-aggregate-check : tie.Need-slice-aggregate-check
+slice-aggregate-check c = sym (length-take-le _ _ (omega arith))
+
+mul-check : tie.Need-mul-check
+mul-check c = search needs
+
+sub-check : tie.Need-sub-check
+sub-check c = search needs
+
+part-check-start : tie.Need-part-check-start
+part-check-start c = search needs
+
+part-check-end : tie.Need-part-check-end
+part-check-end c = search needs
+
+slice-relend-prefix-check : tie.Need-slice-relend-prefix-check
+slice-relend-prefix-check c = search needs
+
+slice-aggregate-check-2 : tie.Need-slice-aggregate-check-2
+slice-aggregate-check-2 c = sym (length-take-le _ _ (omega arith))
+
+check-requires : tie.Need-check-requires
+check-requires c κs = search needs
+
+same-length : tie.Need-same-length
+same-length c = search needs
+
+returns : tie.Need-returns
+returns c = search needs
+
+pub ask-into-spec : {M : Type 1} → statement M
+ask-into-spec =
+    tie.close
+    (tie.spec
+    at-most-requires
+    at-most-requires-2
+    add-end
+    at-most-requires-3
+    slice-aggregate-check
+    mul-check
+    sub-check
+    part-check-start
+    part-check-end
+    slice-relend-prefix-check
+    slice-aggregate-check-2
+    check-requires
+    same-length
+    returns)
