@@ -5,11 +5,19 @@ ghost use Prim.Native.Nat.{_*_, _^_, _≤_, _<_};
 ghost use Rattle.rules.specs.Words.{bit};
 ghost use Rattle.rules.specs.Commands.{rows, rowFrom, rowOf, lengthOf, groupSize, lengthRight};
 ghost use Rattle.rows.specs.Groups.{groupsRight};
+ghost use Rattle.rows.specs.Masks.{maskTable};
 
 mod masks;
 
-pub use masks::MASKS;
+use masks::MASKS;
 pub use masks::ROWS;
+
+// The table of allowed bits. It is written out wherever it is asked for, so a caller asks once and lends it on.
+pub fn mask_table() -> [[u32; 16]; 17]
+    ensures { λ r. ⌜ r ≡ maskTable ⌝ }
+{
+    MASKS
+}
 
 // The row of a header of type 0, by its bits 28:23.
 fn row_of_type_0(key: u32) -> usize

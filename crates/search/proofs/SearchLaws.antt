@@ -16,7 +16,8 @@ use Rattle.rules.specs.Commands.{rows, theRow, groupSize, masksOf}
 use Rattle.rules.proofs.Searching.{search-passes, search-stops}
 use Rattle.rules.proofs.Tables.{each, at-each}
 use Rattle.search.specs.declared.Sought.{Sought}
-use Rattle.search.specs.Search.{wrongAt, wrong, maskRows, maskTable}
+use Rattle.rows.specs.Masks.{maskRows, maskTable}
+use Rattle.search.specs.Search.{wrongAt, wrong}
 
 -- the search from dword k on has the answer of the whole search
 pub record Left (bad : ℕ → Bool) (len k : ℕ) : Type 0 where

@@ -1,8 +1,8 @@
--- What the one search over a command's dwords looks for, and the table of masks as the code holds it.
-use Prim.Native.Nat.{ℕ, zero, suc, _+_, _-_}
+-- What the one search over a command's dwords looks for.
+use Prim.Native.Nat.{ℕ}
 use mathlib.Core.Bool.{Bool, not}
-use mathlib.Core.List.{List, [], _∷_, _++_}
-use lib.ListN.{length, getD, replicate}
+use mathlib.Core.List.{List}
+use lib.ListN.{getD}
 use Rattle.rules.specs.declared.Windows.{Windows}
 use Rattle.rules.specs.Words.{allowed}
 use Rattle.rules.specs.Commands.{masksOf, spot}
@@ -20,12 +20,3 @@ wrongAt Ranges w r d k j = accessWrong w (addressAt d k) (accessOf r d k j)
 -- the same, of the dword k by its number alone
 unfoldable pub wrong : Sought → Windows → ℕ → List ℕ → ℕ → Bool
 wrong what w r d k = wrongAt what w r d k (spot r k)
-
--- the masks of n rows from a row on, each row filled up to sixteen with what allows nothing
-unfoldable pub maskRows : ℕ → ℕ → List (List ℕ)
-maskRows r zero = []
-maskRows r (suc n) = (masksOf r ++ replicate (16 - length (masksOf r)) 0) ∷ maskRows (r + 1) n
-
--- the table that the code lends: a row's number by a dword's number
-unfoldable pub maskTable : List (List ℕ)
-maskTable = maskRows 0 17

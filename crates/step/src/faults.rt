@@ -8,7 +8,7 @@ ghost use Rattle.rules.specs.Formats.{surfaceFormats};
 ghost use Rattle.rules.specs.Commands.{groupSize};
 ghost use Rattle.rules.specs.Structures.{verdictOf};
 ghost use Rattle.rules.specs.Step.{nested, pointerOf};
-ghost use Rattle.search.specs.Search.{maskTable};
+ghost use Rattle.rows.specs.Masks.{maskTable};
 ghost use Rattle.step.specs.Parts.{captured, Fitted, SmallBase, contentOf, structuralOf};
 use commands::dwords::dword;
 use rules::Base;

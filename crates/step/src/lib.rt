@@ -6,7 +6,7 @@ ghost use Rattle.rules.specs.declared.Outcome.the-variants.{Refused};
 ghost use Rattle.rules.specs.Refusals.{fault, inBatch};
 ghost use Rattle.rules.specs.Formats.{surfaceFormats};
 ghost use Rattle.rules.specs.Step.{stepOf};
-ghost use Rattle.search.specs.Search.{maskTable};
+ghost use Rattle.rows.specs.Masks.{maskTable};
 ghost use Rattle.step.specs.Parts.{captured, Fitted, SmallBase};
 use faults::pointer_of;
 use faults::structure_fault;

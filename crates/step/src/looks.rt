@@ -5,7 +5,7 @@ ghost use lib.ListN.{length};
 ghost use Rattle.rules.specs.Refusals.{fault, inBatch};
 ghost use Rattle.rules.specs.Formats.{surfaceFormats};
 ghost use Rattle.rules.specs.Step.{rowAt};
-ghost use Rattle.search.specs.Search.{maskTable};
+ghost use Rattle.rows.specs.Masks.{maskTable};
 ghost use Rattle.step.specs.declared.looks.Look.the-variants.{Wrong};
 ghost use Rattle.step.specs.Looks.{lookOf};
 use crate::faults::content_fault;

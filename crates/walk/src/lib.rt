@@ -42,7 +42,7 @@ fn run<'a>(
     requires { ⌜ (Fitted w (now batch) (now state)) × (length (now batch) ≤ 4096) × (length (now state) ≤ 4096) × (SmallBase base) ⌝ }
     ensures { λ r. ⌜ Ran base (captured w (now (batch .entry)) (now (state .entry))) (now (records .entry)) r (now (records .exit)) ⌝ }
 {
-    let masks = rows::MASKS;
+    let masks = rows::mask_table();
     let formats = formats::SURFACE_FORMATS;
     let mut n: usize = 0;
     let mut s = Cursor {

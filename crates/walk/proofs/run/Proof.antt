@@ -8,8 +8,6 @@ use borrow.Author.Needs.{needs}
 use Rattle.rules.specs.declared.After.the-variants.{To}
 use Rattle.rules.specs.declared.Outcome.the-variants.{Taken}
 use Rattle.rules.specs.Formats.{surfaceFormats}
-use Rattle.rules.specs.Commands.{rows, theRow, masksOf}
-use Rattle.search.specs.Search.{maskRows, maskTable}
 use Rattle.rules.proofs.Recording.{fits-record}
 use Rattle.step.specs.Parts.{captured}
 use Rattle.walk.proofs.Looping.{Going, started, out-of-budget, refused, full, last, next, small-place, small-at, tail-written}
@@ -23,18 +21,21 @@ Inv-loop batch state w records₀ masks formats n₀ s₀ records n s =
 abbrev μ-loop : tie.MeasureT-loop
 μ-loop batch state w records₀ masks formats n₀ s₀ records n s = 65536 - n
 
+mask-table-requires : tie.Need-mask-table-requires Inv-loop μ-loop
+mask-table-requires c κs = search needs
+
 loop-holds : tie.Need-loop-holds Inv-loop μ-loop
-loop-holds c = started _ _ _ (c .before .before .before .pre .3)
+loop-holds c = started _ _ _ (c .before .before .before .before .pre .3)
 
 step-requires : tie.Need-step-requires Inv-loop μ-loop
-unfolding surfaceFormats maskRows maskTable masksOf rows theRow
-step-requires c κs = (c .before .before .before .before .before .before .before .pre .0, c .before .before .before .loop .inv .small, refl, refl)
+unfolding surfaceFormats
+step-requires c κs = (c .before .before .before .before .before .before .before .before .pre .0, c .before .before .before .loop .inv .small, c .before .before .before .before .mask-table .ensures, refl)
 
 enum-known-f : tie.Need-enum-known-f Inv-loop μ-loop
 enum-known-f c = search needs
 
 refusal-requires : tie.Need-refusal-requires Inv-loop μ-loop
-refusal-requires c κs = small-place (c .before .before .before .before .before .before .before .loop .inv) (c .before .before .before .before .before .before .before .before .before .before .before .pre .1) (c .before .before .before .before .before .before .before .before .before .before .before .pre .2) (sym (c .before .before .before .step .ensures) ∙ c .before .f .given .1)
+refusal-requires c κs = small-place (c .before .before .before .before .before .before .before .loop .inv) (c .before .before .before .before .before .before .before .before .before .before .before .before .pre .1) (c .before .before .before .before .before .before .before .before .before .before .before .before .pre .2) (sym (c .before .before .before .step .ensures) ∙ c .before .f .given .1)
 
 same-length : tie.Need-same-length Inv-loop μ-loop
 same-length c = search needs
@@ -49,7 +50,7 @@ full-requires : tie.Need-full-requires Inv-loop μ-loop
 full-requires c κs = search needs
 
 refusal-requires-2 : tie.Need-refusal-requires-2 Inv-loop μ-loop
-refusal-requires-2 c κs = rw (c .full .ensures) (small-at (c .before .before .before .before .before .before .before .before .before .loop .inv) (c .before .before .before .before .before .before .before .before .before .before .before .before .before .pre .1))
+refusal-requires-2 c κs = rw (c .full .ensures) (small-at (c .before .before .before .before .before .before .before .before .before .loop .inv) (c .before .before .before .before .before .before .before .before .before .before .before .before .before .before .pre .1))
 
 same-length-2 : tie.Need-same-length-2 Inv-loop μ-loop
 same-length-2 c = search needs
@@ -70,7 +71,7 @@ part-write-record-end : tie.Need-part-write-record-end Inv-loop μ-loop
 part-write-record-end c = search needs
 
 record-of-requires : tie.Need-record-of-requires Inv-loop μ-loop
-record-of-requires c κs = fits-record _ _ (c .before .before .before .before .before .before .before .before .before .before .before .before .before .pre .1) (sym (c .before .before .before .before .before .step .ensures) ∙ c .before .before .before .command .given .1)
+record-of-requires c κs = fits-record _ _ (c .before .before .before .before .before .before .before .before .before .before .before .before .before .before .pre .1) (sym (c .before .before .before .before .before .step .ensures) ∙ c .before .before .before .command .given .1)
 
 write-record-requires : tie.Need-write-record-requires Inv-loop μ-loop
 write-record-requires c κs = search needs
@@ -106,7 +107,7 @@ spent-requires : tie.Need-spent-requires Inv-loop μ-loop
 spent-requires c κs = search needs
 
 refusal-requires-3 : tie.Need-refusal-requires-3 Inv-loop μ-loop
-refusal-requires-3 c κs = rw (c .spent .ensures) (small-at (c .before .before .loop .inv) (c .before .before .before .before .before .before .pre .1))
+refusal-requires-3 c κs = rw (c .spent .ensures) (small-at (c .before .before .loop .inv) (c .before .before .before .before .before .before .before .pre .1))
 
 same-length-4 : tie.Need-same-length-4 Inv-loop μ-loop
 same-length-4 c = search needs
@@ -120,6 +121,7 @@ run-spec =
     (tie.spec
     Inv-loop
     μ-loop
+    mask-table-requires
     loop-holds
     step-requires
     enum-known-f

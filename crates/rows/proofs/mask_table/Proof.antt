@@ -1,0 +1,14 @@
+-- `rows::mask_table` meets its contract: the code's table and the definitions' are compared by computation.
+-- Assumes nothing.
+use mathlib.Core.Path.{refl}
+use Rattle.rules.specs.Commands.{rows, theRow, masksOf}
+use Rattle.rows.specs.Masks.{maskRows, maskTable}
+use Rattle.rows.proofs.mask_table.Statement.{statement}
+use Rattle.rows.proofs.mask_table.Tie as tie
+
+returns : tie.Need-returns
+unfolding rows theRow masksOf maskRows maskTable
+returns c = refl
+
+pub mask-table-spec : {M : Type 1} → statement M
+mask-table-spec = tie.close (tie.spec returns)
