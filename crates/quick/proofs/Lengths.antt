@@ -13,7 +13,8 @@ use Rattle.rules.specs.declared.Windows.{Windows}
 use Rattle.rules.specs.Words.{bit, field}
 use Rattle.rules.specs.Commands.{Length, dwordCount, one, exactly, byBit, groups, theRow, groupSize, lengthOf, lengthRight}
 use Rattle.rules.proofs.Searching.{and-left, and-right}
-use Rattle.quick.specs.Quick.{cleanOf, quickOf}
+use Rattle.sift.specs.Clean.{cleanOf}
+use Rattle.quick.specs.Quick.{quickOf}
 
 -- the command's row is r, and its length is right
 module _ (r : ℕ) {row : ℕ} (d : List ℕ) (q : row ≡ r) (right : lengthRight row (getD d 0 0) ≡ true)
@@ -79,11 +80,6 @@ module _ (w : Windows) (r : ℕ) (rest : List ℕ) where
         pub passes : cleanOf w r (take (lengthOf r (getD rest 0 0)) rest) ≡ true → lengthOf r (getD rest 0 0) ≡ quickOf w r rest
         unfolding quickOf
         passes f = rw (lt-ltb _ _ k, e, le-leb _ _ l, f)
-
--- a store has a header
-pub some-dword : (t : Bool) {n : ℕ} → n ≡ cond t 5 4 → 0 < n
-some-dword true e = omega arith
-some-dword false e = omega arith
 
 -- what the quick look lends to the tests of a row: the command's own dwords
 pub some-length : (r header : ℕ) → 0 < lengthOf r header

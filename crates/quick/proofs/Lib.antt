@@ -1,3 +1,2 @@
+pub mod Components
 pub mod Lengths
-pub mod Looking
-pub mod Rows

@@ -1,33 +1,12 @@
--- What the quick look at a command asks: whether anything at all is wrong with it, and not what or where.
-use Prim.Native.Nat.{ℕ, zero, suc, _+_}
-use mathlib.Core.Bool.{Bool, true, cond, not, _&&_}
-use mathlib.Core.List.{List, [], _∷_}
+-- What the quick look at a command answers.
+use Prim.Native.Nat.{ℕ}
+use mathlib.Core.Bool.{cond, _&&_}
+use mathlib.Core.List.{List}
 use lib.ListN.{length, getD, take}
 use lib.Dec.{leb, ltb}
 use Rattle.rules.specs.declared.Windows.{Windows}
-use Rattle.rules.specs.Words.{allowed}
 use Rattle.rules.specs.Commands.{lengthOf, lengthRight}
-use Rattle.search.specs.declared.Sought.{Sought}
-use Rattle.search.specs.declared.Sought.the-variants.{Bits, Values, Ranges}
-use Rattle.search.specs.Search.{wrong}
-
--- the test finds none of the n numbers from k on: `firstFrom` as a yes or no
-unfoldable pub freeFrom : (ℕ → Bool) → ℕ → ℕ → Bool
-freeFrom bad k zero = true
-freeFrom bad k (suc n) = not (bad k) && freeFrom bad (k + 1) n
-
--- a search over the dwords of a command finds nothing
-abbrev pub free : Sought → Windows → ℕ → List ℕ → ℕ → Bool
-free what w r d n = freeFrom (wrong what w r d) 0 n
-
--- none of the three does: 10, 12 and 13
-unfoldable pub cleanOf : Windows → ℕ → List ℕ → Bool
-cleanOf w r d = free Bits w r d (length d) && (free Values w r d (length d) && free Ranges w r d (length d))
-
--- the dwords from k on have no bit set outside the masks
-unfoldable pub maskedFrom : List ℕ → ℕ → List ℕ → Bool
-maskedFrom d k [] = true
-maskedFrom d k (m ∷ ms) = allowed (getD d k 0) m && maskedFrom d (k + 1) ms
+use Rattle.sift.specs.Clean.{cleanOf}
 
 -- the length of the command that comes first, where 7 to 10, 12 and 13 find nothing wrong with it; else 0, which no command is long
 unfoldable pub quickOf : Windows → ℕ → List ℕ → ℕ

@@ -1,19 +1,22 @@
 // The rows of groups: one loop over the groups, with a group's masks (10), values (12) and range (13) in one turn.
 ghost use mathlib.Core.Path.{_≡_};
-ghost use mathlib.Core.Bool.{not};
+ghost use mathlib.Core.Bool.{true, not};
 ghost use Prim.Native.Nat.{_+_, _-_, _%_, _≤_, _<_};
-ghost use lib.ListN.{length, getD};
+ghost use lib.ListN.{length};
+ghost use lib.Dec.{ltb};
+ghost use Rattle.rules.specs.Words.{allowed, some};
 ghost use Rattle.rules.specs.Formats.{surfaceFormats};
+ghost use Rattle.rules.specs.Values.{components, componentsWrong};
 ghost use Rattle.search.specs.declared.Sought.the-variants.{Ranges};
 ghost use Rattle.search.specs.Search.{wrongAt};
-ghost use Rattle.quick.specs.Quick.{cleanOf};
-use crate::masks::four;
-use crate::masks::one;
-use crate::masks::two;
+ghost use Rattle.sift.specs.Clean.{cleanOf};
 use commands::dwords::address_at;
 use commands::values::value_wrong;
 use rules::Allowed;
 use rules::Windows;
+use sift::masks::four;
+use sift::masks::one;
+use sift::masks::two;
 
 pub fn registers(w: Windows, d: &[u32], formats: &[u16; 512]) -> bool
     requires { ⌜ (0 < length (now d)) × ((length (now d) - 1) % 2 ≡ 0) × (now formats ≡ surfaceFormats) ⌝ }
@@ -77,6 +80,40 @@ pub fn buffers(w: Windows, d: &[u32], formats: &[u16; 512]) -> bool
     true
 }
 
+// Whether some control is above 4. With 3 added to all four at once, each that is has the clear bit above it set.
+fn some_over(word: u32) -> bool
+    requires { ⌜ allowed word 0x77770000 ≡ true ⌝ }
+    ensures { λ r. ⌜ r ≡ some (ltb 4) (components word) ⌝ }
+{
+    let over = word + 0x3333_0000;
+    (over / 0x8000_0000 % 2 == 1)
+        | ((over / 0x800_0000 % 2 == 1)
+            | ((over / 0x80_0000 % 2 == 1) | (over / 0x8_0000 % 2 == 1)))
+}
+
+// Whether the component controls keep their rule, of a word that keeps its mask.
+fn components_good(word: u32) -> bool
+    requires { ⌜ allowed word 0x77770000 ≡ true ⌝ }
+    ensures { λ r. ⌜ r ≡ not (componentsWrong word) ⌝ }
+{
+    if some_over(word) {
+        return false;
+    }
+    if word / 0x1000_0000 % 8 == 0 {
+        return false;
+    }
+    if word / 0x1_0000 % 8 == 0 {
+        if word / 0x10_0000 % 8 == 0 {
+            return true;
+        }
+        return word / 0x100_0000 % 8 != 0;
+    }
+    if word / 0x100_0000 % 8 == 0 {
+        return false;
+    }
+    word / 0x10_0000 % 8 != 0
+}
+
 pub fn elements(w: Windows, d: &[u32], formats: &[u16; 512]) -> bool
     requires { ⌜ (0 < length (now d)) × ((length (now d) - 1) % 2 ≡ 0) × (now formats ≡ surfaceFormats) ⌝ }
     ensures { λ r. ⌜ r ≡ cleanOf w 11 (now (d .entry)) ⌝ }
@@ -89,10 +126,10 @@ pub fn elements(w: Windows, d: &[u32], formats: &[u16; 512]) -> bool
         if !two(d, k, 0xFFFF_8FFF, 0x7777_0000) {
             return false;
         }
-        if value_wrong(11, d, 1, d[k], formats) {
+        if !components_good(d[k + 1]) {
             return false;
         }
-        if value_wrong(11, d, 2, d[k + 1], formats) {
+        if value_wrong(11, d, 1, d[k], formats) {
             return false;
         }
         k += 2;

@@ -6,16 +6,16 @@ ghost use Prim.Native.Nat.{_<_};
 ghost use lib.ListN.{length, getD};
 ghost use Rattle.rules.specs.Formats.{surfaceFormats};
 ghost use Rattle.rules.specs.Commands.{lengthOf, lengthRight};
-ghost use Rattle.quick.specs.Quick.{cleanOf, quickOf};
-use masks::one;
-use masks::two;
+ghost use Rattle.sift.specs.Clean.{cleanOf};
+ghost use Rattle.quick.specs.Quick.{quickOf};
 use rows::length_of;
 use rows::length_right;
 use rules::Windows;
+use sift::fixed;
+use sift::masks::one;
+use sift::masks::two;
 
-mod fixed;
 mod groups;
-mod masks;
 
 // Whether nothing is wrong with the dwords of a command that has the right length.
 fn clean(w: Windows, row: usize, d: &[u32], formats: &[u16; 512]) -> bool

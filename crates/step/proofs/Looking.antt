@@ -16,18 +16,19 @@ use Rattle.rules.specs.declared.Fault.{Fault}
 use Rattle.rules.specs.declared.Outcome.the-variants.{Refused}
 use Rattle.rules.specs.declared.Verdict.{Verdict}
 use Rattle.rules.specs.declared.Verdict.the-variants.{Pass, Fails}
-use Rattle.rules.specs.declared.Reason.the-variants.{UnknownHeader, WrongLength, PastTheWindow, NestedStart}
+use Rattle.rules.specs.declared.Reason.the-variants.{UnknownHeader, WrongLength, PastTheWindow}
 use Rattle.rules.specs.Refusals.{inBatch, fault}
 use Rattle.rules.specs.Commands.{lengthOf, lengthRight}
 use Rattle.rules.specs.Step.{headerAt, rowAt, lengthAt, dwordsAt, nested, stepOf}
 use Rattle.search.specs.declared.Sought.the-variants.{Bits, Values, Ranges}
-use Rattle.quick.specs.Quick.{cleanOf, quickOf}
-use Rattle.quick.proofs.Looking.{clean-finds-nothing}
+use Rattle.sift.specs.Clean.{cleanOf}
+use Rattle.sift.proofs.Looking.{clean-finds-nothing}
+use Rattle.quick.specs.Quick.{quickOf}
 use Rattle.quick.proofs.Lengths.{passed}
 use Rattle.step.specs.declared.looks.Look.the-variants.{Whole, Wrong}
 use Rattle.step.specs.Parts.{captured, Fitted, contentOf}
 use Rattle.step.specs.Looks.{lookBy, lookOf}
-use Rattle.step.proofs.Contents.{nested-fails, all-clear}
+use Rattle.step.proofs.Contents.{all-clear}
 use Rattle.step.proofs.Ways.{fitted, content, dwords-are, unknown-header, wrong-length, past-the-window, content-fails}
 
 -- the ways out of the search
@@ -88,11 +89,6 @@ module _ (w : Windows) (batch : List ℕ) (at : ℕ) (level : Level) {row n : �
   clean-there : cleanOf w (rowAt batch at) (dwordsAt batch at) ≡ true
   unfolding dwordsAt
   clean-there = rw (header-first, er) at (passed w row (drop at batch) q z .clean)
-
-  pub nested-look : nested row level ≡ true → Wrong (fault NestedStart inBatch at) ≡ lookOf w batch at level
-  nested-look e =
-      content-look w batch at level known-there right-there within-there
-      (sym (nested-fails w (rowAt batch at) (dwordsAt batch at) at level (clean-finds-nothing w _ _ clean-there Bits) (rw er at e)))
 
   pub quick-look : nested row level ≡ false → Whole n ≡ lookOf w batch at level
   quick-look e =

@@ -1,4 +1,4 @@
-// The checks 7 to 13 of the command at a position: the quick look first, which most commands pass, and else the search for what is wrong.
+// The checks 7 to 13 of the command at a position: the quick look, and where it does not pass, the search for what is wrong.
 ghost use mathlib.Core.Path.{_≡_};
 ghost use Prim.Native.Nat.{_<_};
 ghost use lib.ListN.{length};
@@ -68,7 +68,7 @@ fn searched(
     }
 }
 
-// By the quick look. What passes it can only be a start that is nested (11).
+// By the quick look, which most commands pass. A start that is nested (11) is refused in any case, and the search says for what.
 pub fn looked(
     batch: &[u32],
     w: Windows,
@@ -81,12 +81,12 @@ pub fn looked(
     requires { ⌜ (at < length (now batch)) × (row ≡ rowAt (now batch) at) × (now masks ≡ maskTable) × (now formats ≡ surfaceFormats) ⌝ }
     ensures { λ r. ⌜ r ≡ lookOf w (now (batch .entry)) at level ⌝ }
 {
+    if is_nested(row, level) {
+        return searched(batch, w, row, at, level, masks, formats);
+    }
     let length = quick(w, row, &batch[at..], formats);
     if length == 0 {
         return searched(batch, w, row, at, level, masks, formats);
-    }
-    if is_nested(row, level) {
-        return wrong(Reason::NestedStart, at);
     }
     Look::Whole(length)
 }

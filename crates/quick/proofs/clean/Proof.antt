@@ -8,7 +8,7 @@ use Rattle.rules.specs.Values.{valueRules, ruleOf}
 use Rattle.rules.specs.Addresses.{usesByRow, accessOf}
 use Rattle.rows.proofs.RowLaws.{past}
 use Rattle.quick.proofs.Lengths.{length-one, length-exactly, length-by-bit, length-groups}
-use Rattle.quick.proofs.Looking.{plain}
+use Rattle.sift.proofs.Looking.{plain}
 use Rattle.quick.proofs.clean.Statement.{statement}
 use Rattle.quick.proofs.clean.Tie as tie
 

@@ -7,7 +7,7 @@ use native.Mathlib.Omega.{arith}
 use lib.ListN.{take}
 use lib.Seq.{length-take-le}
 use borrow.Author.Tests.{not-true, not-false}
-use Rattle.quick.specs.Quick.{cleanOf}
+use Rattle.sift.specs.Clean.{cleanOf}
 use Rattle.quick.proofs.Lengths.{wrong-length, too-long, unclean, passes, still-right, still-counted}
 use Rattle.quick.proofs.whole.Statement.{statement}
 use Rattle.quick.proofs.whole.Tie as tie

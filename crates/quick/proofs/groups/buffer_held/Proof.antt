@@ -7,7 +7,7 @@ use native.Mathlib.Omega.{arith}
 use lib.ListN.{getD}
 use Rattle.rules.specs.declared.Allowed.the-variants.{AnyWindow}
 use Rattle.rules.specs.Windows.{fits}
-use Rattle.quick.proofs.Rows.{null, unmarked, sizeless, ranged}
+use Rattle.sift.proofs.Rows.{null, unmarked, sizeless, ranged}
 use Rattle.quick.proofs.groups.buffer_held.Statement.{statement}
 use Rattle.quick.proofs.groups.buffer_held.Tie as tie
 

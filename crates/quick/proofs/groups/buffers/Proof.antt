@@ -15,8 +15,8 @@ use Rattle.rules.specs.Values.{valueRules, ruleOf}
 use Rattle.rules.specs.Addresses.{usesByRow, accessOf}
 use Rattle.search.specs.declared.Sought.the-variants.{Bits, Values, Ranges}
 use Rattle.search.specs.Search.{wrongAt, wrong}
-use Rattle.quick.specs.Quick.{freeFrom}
-use Rattle.quick.proofs.Looking.{Left, left-all, turn, stop, done, bits-are, group-bits, bits-fail, values-fail, all-stages, ranges-fail, quad-free, quad-first, quad-second}
+use Rattle.sift.specs.Clean.{freeFrom}
+use Rattle.sift.proofs.Looking.{Left, left-all, turn, stop, done, bits-are, group-bits, bits-fail, values-fail, all-stages, ranges-fail, quad-free, quad-first, quad-second}
 use Rattle.quick.proofs.groups.buffers.Statement.{statement}
 use Rattle.quick.proofs.groups.buffers.Tie as tie
 

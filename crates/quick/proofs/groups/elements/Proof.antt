@@ -5,18 +5,19 @@ use borrow.Author.Needs.{needs}
 use Prim.Native.Nat.{_+_, _-_, _%_, _≤_}
 use native.Mathlib.Omega.{arith}
 use mathlib.Core.Path.{_≡_, refl, sym, ap, _∙_}
-use lib.ListN.{length}
+use lib.ListN.{length, getD}
 use lib.Dec.{lit≤}
 use borrow.Author.Tests.{not-true, not-false}
 use Rattle.rules.specs.declared.Windows.{Windows}
-use Rattle.rules.specs.Words.{inGroup}
+use Rattle.rules.specs.Words.{allowed, inGroup}
 use Rattle.rules.specs.Commands.{rows, theRow, groupSize, masksOf}
 use Rattle.rules.specs.Values.{valueRules, ruleOf}
 use Rattle.rules.specs.Addresses.{usesByRow, accessOf}
 use Rattle.search.specs.declared.Sought.the-variants.{Bits, Values}
 use Rattle.search.specs.Search.{wrongAt, wrong}
-use Rattle.quick.specs.Quick.{freeFrom}
-use Rattle.quick.proofs.Looking.{Left, left-all, turn, stop, done, bits-are, group-bits, bits-fail, values-fail, all-stages, no-ranges, pair-free, pair-first, pair-second}
+use Rattle.sift.specs.Clean.{freeFrom, maskedFrom}
+use Rattle.sift.proofs.Looking.{Left, left-all, turn, stop, done, bits-are, group-bits, bits-fail, values-fail, all-stages, no-ranges, pair-free, pair-first, pair-second}
+use Rattle.quick.proofs.Components.{second-kept}
 use Rattle.quick.proofs.groups.elements.Statement.{statement}
 use Rattle.quick.proofs.groups.elements.Tie as tie
 
@@ -45,6 +46,23 @@ returns-2 : tie.Need-returns-2 Inv-loop μ-loop
 unfolding rows theRow groupSize masksOf
 returns-2 c = bits-fail _ _ _ refl (stop (c .before .before .before .loop .inv .3 (c .before .before .before .before .before .before .before .args .w)) 2 (omega arith) (group-bits _ 11 (c .before .before .before .before .before .before .before .args .d .now) (c .before .before .before .loop .k) (c .before .before .before .loop .inv .0) (c .before .before .before .loop .inv .2) _ refl refl (c .before .two .ensures) ∙ not-true _ (c .if2 .taken)))
 
+add-components-good : tie.Need-add-components-good Inv-loop μ-loop
+add-components-good c = search needs
+
+mul-components-good : tie.Need-mul-components-good Inv-loop μ-loop
+mul-components-good c = search needs
+
+shared-slice-read-components-good : tie.Need-shared-slice-read-components-good Inv-loop μ-loop
+shared-slice-read-components-good c = search needs
+
+components-good-requires : tie.Need-components-good-requires Inv-loop μ-loop
+unfolding maskedFrom
+components-good-requires c κs = second-kept (allowed (getD (c .before .before .before .before .before .before .before .before .args .d .now) (c .before .before .before .before .loop .k) 0) 0xFFFF8FFF) _ (sym (c .before .before .two .ensures) ∙ not-false _ (c .before .if2 .left))
+
+returns-3 : tie.Need-returns-3 Inv-loop μ-loop
+unfolding rows theRow groupSize masksOf wrongAt ruleOf valueRules
+returns-3 c = values-fail _ _ _ refl (stop (c .before .before .before .before .before .before .loop .inv .4 (c .before .before .before .before .before .before .before .before .before .before .args .w)) 2 (omega arith) (pair-second _ 11 (c .before .before .before .before .before .before .before .before .before .before .args .d .now) (c .before .before .before .before .before .before .loop .k) (c .before .before .before .before .before .before .loop .inv .0) (c .before .before .before .before .before .before .loop .inv .2) Values refl (not-false _ (sym (c .before .components-good .ensures) ∙ not-true _ (c .if3 .taken)))))
+
 mul-value-wrong : tie.Need-mul-value-wrong Inv-loop μ-loop
 mul-value-wrong c = search needs
 
@@ -54,25 +72,9 @@ shared-slice-read-value-wrong c = search needs
 value-wrong-requires : tie.Need-value-wrong-requires Inv-loop μ-loop
 value-wrong-requires c κs = search needs
 
-returns-3 : tie.Need-returns-3 Inv-loop μ-loop
-unfolding rows theRow groupSize masksOf wrongAt ruleOf valueRules
-returns-3 c = values-fail _ _ _ refl (stop (c .before .before .before .before .before .before .loop .inv .4 (c .before .before .before .before .before .before .before .before .before .before .args .w)) 2 (omega arith) (pair-first _ 11 (c .before .before .before .before .before .before .before .before .before .before .args .d .now) (c .before .before .before .before .before .before .loop .k) (c .before .before .before .before .before .before .loop .inv .0) (c .before .before .before .before .before .before .loop .inv .2) Values refl (sym (c .before .value-wrong .ensures) ∙ c .if3 .taken)))
-
-add-value-wrong : tie.Need-add-value-wrong Inv-loop μ-loop
-add-value-wrong c = search needs
-
-mul-value-wrong-2 : tie.Need-mul-value-wrong-2 Inv-loop μ-loop
-mul-value-wrong-2 c = search needs
-
-shared-slice-read-value-wrong-2 : tie.Need-shared-slice-read-value-wrong-2 Inv-loop μ-loop
-shared-slice-read-value-wrong-2 c = search needs
-
-value-wrong-requires-2 : tie.Need-value-wrong-requires-2 Inv-loop μ-loop
-value-wrong-requires-2 c κs = search needs
-
 returns-4 : tie.Need-returns-4 Inv-loop μ-loop
 unfolding rows theRow groupSize masksOf wrongAt ruleOf valueRules
-returns-4 c = values-fail _ _ _ refl (stop (c .before .before .before .before .before .before .before .before .before .loop .inv .4 (c .before .before .before .before .before .before .before .before .before .before .before .before .before .args .w)) 2 (omega arith) (pair-second _ 11 (c .before .before .before .before .before .before .before .before .before .before .before .before .before .args .d .now) (c .before .before .before .before .before .before .before .before .before .loop .k) (c .before .before .before .before .before .before .before .before .before .loop .inv .0) (c .before .before .before .before .before .before .before .before .before .loop .inv .2) Values refl (sym (c .before .value-wrong2 .ensures) ∙ c .if4 .taken)))
+returns-4 c = values-fail _ _ _ refl (stop (c .before .before .before .before .before .before .before .before .before .loop .inv .4 (c .before .before .before .before .before .before .before .before .before .before .before .before .before .args .w)) 2 (omega arith) (pair-first _ 11 (c .before .before .before .before .before .before .before .before .before .before .before .before .before .args .d .now) (c .before .before .before .before .before .before .before .before .before .loop .k) (c .before .before .before .before .before .before .before .before .before .loop .inv .0) (c .before .before .before .before .before .before .before .before .before .loop .inv .2) Values refl (sym (c .before .value-wrong .ensures) ∙ c .if4 .taken)))
 
 add-k : tie.Need-add-k Inv-loop μ-loop
 add-k c = omega arith
@@ -82,7 +84,7 @@ loop-less c = omega arith
 
 loop-again : tie.Need-loop-again Inv-loop μ-loop
 unfolding wrongAt rows theRow groupSize masksOf ruleOf valueRules usesByRow accessOf
-loop-again c = (omega arith, omega arith, omega arith, λ w. turn (c .before .before .before .before .before .before .before .before .before .loop .inv .3 w) 2 (omega arith) (group-bits w 11 (c .before .before .before .before .before .before .before .before .before .before .before .before .before .args .d .now) (c .before .before .before .before .before .before .before .before .before .loop .k) (c .before .before .before .before .before .before .before .before .before .loop .inv .0) (c .before .before .before .before .before .before .before .before .before .loop .inv .2) _ refl refl (c .before .before .before .before .before .before .before .two .ensures) ∙ not-false _ (c .before .before .before .before .before .before .if2 .left)), λ w. turn (c .before .before .before .before .before .before .before .before .before .loop .inv .4 w) 2 (omega arith) (pair-free w 11 (c .before .before .before .before .before .before .before .before .before .before .before .before .before .args .d .now) (c .before .before .before .before .before .before .before .before .before .loop .k) (c .before .before .before .before .before .before .before .before .before .loop .inv .0) (c .before .before .before .before .before .before .before .before .before .loop .inv .2) Values refl (sym (c .before .before .before .before .value-wrong .ensures) ∙ c .before .before .before .if3 .left) (sym (c .before .value-wrong2 .ensures) ∙ c .if4 .left)))
+loop-again c = (omega arith, omega arith, omega arith, λ w. turn (c .before .before .before .before .before .before .before .before .before .loop .inv .3 w) 2 (omega arith) (group-bits w 11 (c .before .before .before .before .before .before .before .before .before .before .before .before .before .args .d .now) (c .before .before .before .before .before .before .before .before .before .loop .k) (c .before .before .before .before .before .before .before .before .before .loop .inv .0) (c .before .before .before .before .before .before .before .before .before .loop .inv .2) _ refl refl (c .before .before .before .before .before .before .before .two .ensures) ∙ not-false _ (c .before .before .before .before .before .before .if2 .left)), λ w. turn (c .before .before .before .before .before .before .before .before .before .loop .inv .4 w) 2 (omega arith) (pair-free w 11 (c .before .before .before .before .before .before .before .before .before .before .before .before .before .args .d .now) (c .before .before .before .before .before .before .before .before .before .loop .k) (c .before .before .before .before .before .before .before .before .before .loop .inv .0) (c .before .before .before .before .before .before .before .before .before .loop .inv .2) Values refl (sym (c .before .value-wrong .ensures) ∙ c .if4 .left) (not-true _ (sym (c .before .before .before .before .components-good .ensures) ∙ not-false _ (c .before .before .before .if3 .left)))))
 
 returns-5 : tie.Need-returns-5 Inv-loop μ-loop
 unfolding usesByRow accessOf
@@ -99,14 +101,14 @@ elements-spec =
     loop-holds
     two-requires
     returns-2
+    add-components-good
+    mul-components-good
+    shared-slice-read-components-good
+    components-good-requires
+    returns-3
     mul-value-wrong
     shared-slice-read-value-wrong
     value-wrong-requires
-    returns-3
-    add-value-wrong
-    mul-value-wrong-2
-    shared-slice-read-value-wrong-2
-    value-wrong-requires-2
     returns-4
     add-k
     loop-less

@@ -15,8 +15,8 @@ use Rattle.rules.specs.Values.{valueRules, ruleOf}
 use Rattle.rules.specs.Addresses.{usesByRow, accessOf}
 use Rattle.search.specs.declared.Sought.the-variants.{Bits, Values}
 use Rattle.search.specs.Search.{wrongAt, wrong}
-use Rattle.quick.specs.Quick.{freeFrom}
-use Rattle.quick.proofs.Looking.{Left, left-all, turn, stop, done, bits-are, group-bits, bits-fail, values-fail, all-stages, no-ranges, pair-free, pair-first}
+use Rattle.sift.specs.Clean.{freeFrom}
+use Rattle.sift.proofs.Looking.{Left, left-all, turn, stop, done, bits-are, group-bits, bits-fail, values-fail, all-stages, no-ranges, pair-free, pair-first}
 use Rattle.quick.proofs.groups.registers.Statement.{statement}
 use Rattle.quick.proofs.groups.registers.Tie as tie
 

@@ -3,9 +3,18 @@
 use borrow.Author.Needs.{needs}
 use mathlib.Core.Path.{sym, ap, _∙_}
 use Rattle.quick.specs.Quick.{quickOf}
-use Rattle.step.proofs.Looking.{rest-is, nested-look, quick-look}
+use Rattle.step.proofs.Looking.{rest-is, quick-look}
 use Rattle.step.proofs.looks.looked.Statement.{statement}
 use Rattle.step.proofs.looks.looked.Tie as tie
+
+is-nested-requires : tie.Need-is-nested-requires
+is-nested-requires c κs = search needs
+
+searched-requires : tie.Need-searched-requires
+searched-requires c κs = search needs
+
+returns : tie.Need-returns
+returns c = search needs
 
 mul-quick : tie.Need-mul-quick
 mul-quick c = search needs
@@ -22,36 +31,27 @@ part-quick-end c = search needs
 quick-requires : tie.Need-quick-requires
 quick-requires c κs = search needs
 
-searched-requires : tie.Need-searched-requires
-searched-requires c κs = search needs
-
-returns : tie.Need-returns
-returns c = search needs
-
-is-nested-requires : tie.Need-is-nested-requires
-is-nested-requires c κs = search needs
-
-wrong-requires : tie.Need-wrong-requires
-wrong-requires c κs = search needs
+searched-requires-2 : tie.Need-searched-requires-2
+searched-requires-2 c κs = search needs
 
 returns-2 : tie.Need-returns-2
-returns-2 c = c .wrong .ensures ∙ nested-look _ (c .before .before .before .before .before .before .before .args .batch .now) (c .before .before .before .before .before .before .before .args .at) _ (c .before .before .before .before .before .before .before .pre .1) (c .before .before .before .before .before .before .before .pre .0) (c .before .before .before .before .quick .ensures ∙ ap (quickOf (c .before .before .before .before .before .before .before .args .w) (c .before .before .before .before .before .before .before .args .row)) (rest-is (c .before .before .before .before .before .before .before .args .batch .now) (c .before .before .before .before .before .before .before .args .at))) (c .before .before .before .if1 .left) (sym (c .before .before .is-nested .ensures) ∙ c .before .if2 .taken)
+returns-2 c = search needs
 
 returns-3 : tie.Need-returns-3
-returns-3 c = quick-look _ (c .before .before .before .before .before .before .args .batch .now) (c .before .before .before .before .before .before .args .at) _ (c .before .before .before .before .before .before .pre .1) (c .before .before .before .before .before .before .pre .0) (c .before .before .before .quick .ensures ∙ ap (quickOf (c .before .before .before .before .before .before .args .w) (c .before .before .before .before .before .before .args .row)) (rest-is (c .before .before .before .before .before .before .args .batch .now) (c .before .before .before .before .before .before .args .at))) (c .before .before .if1 .left) (sym (c .before .is-nested .ensures) ∙ c .if2 .left)
+returns-3 c = quick-look _ (c .before .before .before .before .before .before .args .batch .now) (c .before .before .before .before .before .before .args .at) _ (c .before .before .before .before .before .before .pre .1) (c .before .before .before .before .before .before .pre .0) (c .before .quick .ensures ∙ ap (quickOf (c .before .before .before .before .before .before .args .w) (c .before .before .before .before .before .before .args .row)) (rest-is (c .before .before .before .before .before .before .args .batch .now) (c .before .before .before .before .before .before .args .at))) (c .if2 .left) (sym (c .before .before .before .before .is-nested .ensures) ∙ c .before .before .before .if1 .left)
 
 pub looked-spec : {M : Type 1} → statement M
 looked-spec =
     tie.close
     (tie.spec
+    is-nested-requires
+    searched-requires
+    returns
     mul-quick
     sub-quick
     part-quick-start
     part-quick-end
     quick-requires
-    searched-requires
-    returns
-    is-nested-requires
-    wrong-requires
+    searched-requires-2
     returns-2
     returns-3)
