@@ -3,20 +3,20 @@
 use Prim.Native.Nat.{ℕ, zero, suc, _+_, _-_, _%_, _≤_, _<_}
 use native.Mathlib.Omega.{arith}
 use native.Mathlib.Numerals.{add-one}
-use mathlib.Core.Path.{_≡_, refl, sym, ap, _∙_, subst}
-use mathlib.Core.Bool.{Bool, true, false, cond, not, _&&_, and-true, and-false, and-assoc, Bool·not-not}
+use mathlib.Core.Path.{_≡_, refl, sym, ap, _∙_}
+use mathlib.Core.Bool.{Bool, true, false, not, _&&_, and-true, and-false, and-assoc, Bool·not-not}
 use mathlib.Core.List.{List, [], _∷_, _++_}
 use lib.ListN.{length, getD, take}
 use lib.Seq.{getD-take}
 use borrow.Author.Tests.{ne-eqb}
 use native.Mathlib.Nat.{mod-eq-of-lt}
-use Rattle.rules.specs.declared.Found.the-variants.{At, Nothing}
+use Rattle.rules.specs.declared.Found.the-variants.{Nothing}
 use Rattle.rules.specs.declared.Windows.{Windows}
 use Rattle.rules.specs.Words.{allowed, inGroup, firstFrom, firstOf}
 use Rattle.rules.specs.Commands.{groupSize, masksOf, spot}
 use Rattle.rules.specs.Values.{Rule, noRule, ruleOf}
 use Rattle.rules.specs.Addresses.{Uses, noUse, accessOf, addressAt, accessWrong}
-use Rattle.rules.proofs.Searching.{either, search-passes, and-left, and-right}
+use Rattle.rules.proofs.Searching.{search-passes, and-left, and-right}
 use Rattle.search.specs.declared.Sought.{Sought}
 use Rattle.search.specs.declared.Sought.the-variants.{Bits, Values, Ranges}
 use Rattle.search.specs.Search.{wrongAt, wrong}

@@ -1,21 +1,20 @@
 -- Which values and which ranges of a row's dwords are looked at, row by row: the definitions, computed.
 -- Assumes nothing.
-use Prim.Native.Nat.{ℕ, _+_, _-_, _/_, _%_, _≤_, _<_}
+use Prim.Native.Nat.{ℕ, _+_, _-_, _/_, _%_, _<_}
 use native.Mathlib.Omega.{arith}
-use mathlib.Core.Path.{_≡_, refl, sym, ap, _∙_}
+use mathlib.Core.Path.{_≡_, refl}
 use mathlib.Core.Bool.{Bool, true, false, cond, not, _&&_, _||_, and-true, and-false, Bool·not-not}
-use mathlib.Core.List.{List, [], _∷_}
-use lib.ListN.{length, getD}
-use lib.Dec.{eqb}
+use mathlib.Core.List.{List}
+use lib.ListN.{getD}
 use borrow.Author.Tests.{eq-eqb, ne-eqb}
 use Rattle.rules.specs.declared.Windows.{Windows}
 use Rattle.rules.specs.declared.Allowed.the-variants.{BatchOnly, ScratchOnly, AnyWindow}
-use Rattle.rules.specs.Words.{bit, inGroup}
+use Rattle.rules.specs.Words.{inGroup}
 use Rattle.rules.specs.Windows.{fits}
 use Rattle.rules.specs.Commands.{rows, theRow, groupSize}
-use Rattle.rules.specs.Values.{eightBytes, postSync, valueRules, ruleOf}
+use Rattle.rules.specs.Values.{valueRules, ruleOf}
 use Rattle.rules.specs.Addresses.{addressAt, usesByRow, accessOf}
-use Rattle.search.specs.declared.Sought.the-variants.{Bits, Values, Ranges}
+use Rattle.search.specs.declared.Sought.the-variants.{Values, Ranges}
 use Rattle.search.specs.Search.{wrongAt, wrong}
 use Rattle.sift.specs.Clean.{freeFrom, free}
 

@@ -2,11 +2,9 @@
 -- Assumes nothing.
 use borrow.Author.Needs.{needs}
 use Prim.Native.Nat.{_/_, _%_}
-use mathlib.Core.Path.{sym, ap, _∙_}
-use mathlib.Core.Bool.{Bool, not, _||_}
-use mathlib.Core.List.{[], _∷_}
-use lib.Dec.{eqb}
-use Rattle.rules.specs.Values.{afterZero, componentsWrong}
+use mathlib.Core.Path.{sym, _∙_}
+use mathlib.Core.Bool.{not}
+use Rattle.rules.specs.Values.{componentsWrong}
 use Rattle.commands.proofs.ValueLaws.{none-last-two, none-last, some-last, some-third}
 use Rattle.quick.proofs.Components.{some-above, none-first, by-rest}
 use Rattle.quick.proofs.groups.components_good.Statement.{statement}

@@ -1,7 +1,7 @@
 -- `sift::fixed::primitive` meets its contract: one law for each stage.
 -- Assumes nothing.
 use borrow.Author.Needs.{needs}
-use mathlib.Core.Path.{refl, sym, ap, _∙_}
+use mathlib.Core.Path.{refl, sym, _∙_}
 use lib.Dec.{lit≤}
 use borrow.Author.Tests.{not-true, not-false}
 use Rattle.rules.specs.Commands.{rows, theRow, masksOf}
