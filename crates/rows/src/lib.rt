@@ -60,10 +60,11 @@ fn row_of_type_3(key: u32) -> usize
 pub fn row_of(header: u32) -> usize
     ensures { λ r. ⌜ r ≡ rowOf header ⌝ }
 {
-    if 0x1FFF_FFFF < header {
-        return row_of_type_3(header / 0x1_0000);
+    if header < 0x2000_0000 {
+        row_of_type_0(header / 0x80_0000)
+    } else {
+        row_of_type_3(header / 0x1_0000)
     }
-    row_of_type_0(header / 0x80_0000)
 }
 
 // How many dwords the command has, by its header. Rows 0, 1 and 8 have no field.
