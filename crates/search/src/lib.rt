@@ -80,7 +80,7 @@ pub fn first_wrong(
     }
     let size = group_size(row);
     let mut first = 1;
-    let found = 'groups: loop {
+    'groups: loop {
         if len <= first {
             break Found::Nothing;
         }
@@ -96,6 +96,5 @@ pub fn first_wrong(
             j += 1;
         }
         first += size;
-    };
-    found
+    }
 }

@@ -53,9 +53,7 @@ fn run<'a>(
     while n < BUDGET {
         let at = s.at;
         match step(batch, state, w, s, &masks, &formats) {
-            Outcome::Refused(f) => {
-                return refusal(f, n);
-            }
+            Outcome::Refused(f) => return refusal(f, n),
             Outcome::Taken(command, after) => {
                 if records.len() <= n {
                     return refusal(full(at), n);
@@ -63,12 +61,8 @@ fn run<'a>(
                 write_record(&mut records[n..], record_of(command));
                 n += 1;
                 match after {
-                    After::Ends => {
-                        return acceptance(n);
-                    }
-                    After::To(t) => {
-                        s = fresh(t);
-                    }
+                    After::Ends => return acceptance(n),
+                    After::To(t) => s = fresh(t),
                 }
             }
         }
