@@ -7,10 +7,10 @@ ghost use lib.Dec.{ltb};
 ghost use Rattle.rules.specs.Words.{allowed, some};
 ghost use Rattle.rules.specs.Formats.{surfaceFormats};
 ghost use Rattle.rules.specs.Values.{components, componentsWrong};
+ghost use Rattle.rules.specs.Addresses.{addressAt};
 ghost use Rattle.search.specs.declared.Sought.the-variants.{Ranges};
 ghost use Rattle.search.specs.Search.{wrongAt};
 ghost use Rattle.sift.specs.Clean.{cleanOf};
-use commands::dwords::address_at;
 use commands::values::value_wrong;
 use rules::Allowed;
 use rules::Windows;
@@ -38,6 +38,16 @@ pub fn registers(w: Windows, d: &[u32], formats: &[u16; 512]) -> bool
     true
 }
 
+// The address whose two dwords stand at k: both are there, so neither is asked for.
+fn address(d: &[u32], k: usize) -> u64
+    requires { ⌜ k + 2 ≤ length (now d) ⌝ }
+    ensures { λ r. ⌜ r ≡ addressAt (now (d .entry)) k ⌝ }
+{
+    let low = d[k] as u64;
+    let high = d[k + 1] as u64;
+    low + 0x1_0000_0000 * high
+}
+
 // Whether the range of the group at k, if it has one, lies in some window.
 fn buffer_held(w: Windows, d: &[u32], k: usize) -> bool
     requires { ⌜ k + 4 ≤ length (now d) ⌝ }
@@ -54,7 +64,7 @@ fn buffer_held(w: Windows, d: &[u32], k: usize) -> bool
     if size == 0 {
         return true;
     }
-    windows::fits(w, Allowed::AnyWindow, address_at(d, k + 1), size as u64)
+    windows::fits(w, Allowed::AnyWindow, address(d, k + 1), size as u64)
 }
 
 pub fn buffers(w: Windows, d: &[u32], formats: &[u16; 512]) -> bool

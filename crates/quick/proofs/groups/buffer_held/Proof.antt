@@ -35,11 +35,11 @@ shared-slice-read-size c = search needs
 returns-3 : tie.Need-returns-3
 returns-3 c = sizeless _ _ _ (c .before .before .before .if1 .left) (c .before .before .if2 .left) (c .if3 .taken)
 
-add-address-at : tie.Need-add-address-at
-add-address-at c = search needs
+add-address : tie.Need-add-address
+add-address c = search needs
 
-address-at-requires : tie.Need-address-at-requires
-address-at-requires c κs = search needs
+address-requires : tie.Need-address-requires
+address-requires c κs = search needs
 
 cast-fits : tie.Need-cast-fits
 cast-fits c = omega (arith, c .before .before .before .before .before .shared-slice-known2 .given (c .before .before .before .before .before .before .before .args .k + 3))
@@ -48,7 +48,7 @@ fits-requires : tie.Need-fits-requires
 fits-requires c κs = search needs
 
 returns-4 : tie.Need-returns-4
-returns-4 c = c .fits2 .ensures ∙ ap (λ (a : ℕ). fits (c .before .before .before .before .before .before .before .before .args .w) AnyWindow a (getD (c .before .before .before .before .before .before .before .before .args .d .now) (c .before .before .before .before .before .before .before .before .args .k + 3) 0)) (c .before .address-at .ensures) ∙ ranged _ _ _ (c .before .before .before .before .before .if1 .left) (c .before .before .before .before .if2 .left) (c .before .before .if3 .left)
+returns-4 c = c .fits2 .ensures ∙ ap (λ (a : ℕ). fits (c .before .before .before .before .before .before .before .before .args .w) AnyWindow a (getD (c .before .before .before .before .before .before .before .before .args .d .now) (c .before .before .before .before .before .before .before .before .args .k + 3) 0)) (c .before .address .ensures) ∙ ranged _ _ _ (c .before .before .before .before .before .if1 .left) (c .before .before .before .before .if2 .left) (c .before .before .if3 .left)
 
 pub buffer-held-spec : {M : Type 1} → statement M
 buffer-held-spec =
@@ -62,8 +62,8 @@ buffer-held-spec =
     mul-size
     shared-slice-read-size
     returns-3
-    add-address-at
-    address-at-requires
+    add-address
+    address-requires
     cast-fits
     fits-requires
     returns-4)
