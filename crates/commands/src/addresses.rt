@@ -1,6 +1,6 @@
 // The addresses that a command uses (13): whether its dword k, the dword j of its group, is the low dword of one.
 ghost use mathlib.Core.Path.{_≡_};
-ghost use mathlib.Core.List.{[]};
+ghost use mathlib.Core.List.{[], _∷_};
 ghost use Prim.Native.Nat.{_-_, _<_};
 ghost use lib.ListN.{length};
 ghost use Rattle.rules.specs.Addresses.{startUse, storeUse, storeRegisterUse, loadRegisterUse, pipeUse, vertexBufferUse, indexBufferUse, accessOf, accessWrong, sized};
@@ -18,7 +18,7 @@ fn start_use(j: usize) -> Access
     }
 }
 
-fn store_use(command: &[u32], j: usize) -> Access
+pub fn store_use(command: &[u32], j: usize) -> Access
     ensures { λ r. ⌜ r ≡ storeUse (now (command .entry)) 0 j ⌝ }
 {
     if j != 1 {
@@ -51,7 +51,7 @@ fn load_register_use(j: usize) -> Access
     }
 }
 
-fn pipe_use(command: &[u32], j: usize) -> Access
+pub fn pipe_use(command: &[u32], j: usize) -> Access
     ensures { λ r. ⌜ r ≡ pipeUse (now (command .entry)) 0 j ⌝ }
 {
     if j != 2 {
@@ -81,6 +81,19 @@ fn before(k: usize) -> usize
     if 0 < k { k - 1 } else { 0 }
 }
 
+// The range of a vertex buffer, by the first of its dwords and the last.
+pub fn vertex_buffer_range(flags: u32, size: u32) -> Access
+    ensures { λ r. ⌜ r ≡ vertexBufferUse (flags ∷ 0 ∷ 0 ∷ size ∷ []) 1 2 ⌝ }
+{
+    if flags / 0x2000 % 2 == 1 {
+        return Access::Unused;
+    }
+    if flags / 0x4000 % 2 != 1 {
+        return Access::Unused;
+    }
+    sized_use(size)
+}
+
 fn vertex_buffer_use(command: &[u32], k: usize, j: usize) -> Access
     requires { ⌜ k < length (now command) ⌝ }
     ensures { λ r. ⌜ r ≡ vertexBufferUse (now (command .entry)) k j ⌝ }
@@ -88,17 +101,10 @@ fn vertex_buffer_use(command: &[u32], k: usize, j: usize) -> Access
     if j != 2 {
         return Access::Unused;
     }
-    let flags = dword(command, before(k));
-    if flags / 0x2000 % 2 == 1 {
-        return Access::Unused;
-    }
-    if flags / 0x4000 % 2 != 1 {
-        return Access::Unused;
-    }
-    sized_use(dword(command, k + 2))
+    vertex_buffer_range(dword(command, before(k)), dword(command, k + 2))
 }
 
-fn index_buffer_use(command: &[u32], k: usize, j: usize) -> Access
+pub fn index_buffer_use(command: &[u32], k: usize, j: usize) -> Access
     requires { ⌜ k < length (now command) ⌝ }
     ensures { λ r. ⌜ r ≡ indexBufferUse (now (command .entry)) k j ⌝ }
 {

@@ -1,6 +1,6 @@
 // Reading a command's dwords by their number; past the end stands 0, as in the definitions.
 ghost use mathlib.Core.Path.{_≡_};
-ghost use Prim.Native.Nat.{_+_, _<_};
+ghost use Prim.Native.Nat.{_+_, _*_, _^_, _<_};
 ghost use lib.ListN.{length, getD};
 ghost use Rattle.rules.specs.Addresses.{addressAt};
 
@@ -10,12 +10,17 @@ pub fn dword(command: &[u32], k: usize) -> u32
     if k < command.len() { command[k] } else { 0 }
 }
 
+// The address that two dwords make.
+pub fn address_of(low: u32, high: u32) -> u64
+    ensures { λ r. ⌜ r ≡ low + 2 ^ 32 * high ⌝ }
+{
+    low as u64 + 0x1_0000_0000 * (high as u64)
+}
+
 // The address whose low dword is dword k.
 pub fn address_at(command: &[u32], k: usize) -> u64
     requires { ⌜ k < length (now command) ⌝ }
     ensures { λ r. ⌜ r ≡ addressAt (now (command .entry)) k ⌝ }
 {
-    let low = command[k] as u64;
-    let high = dword(command, k + 1) as u64;
-    low + 0x1_0000_0000 * high
+    address_of(command[k], dword(command, k + 1))
 }

@@ -122,7 +122,3 @@ module _ (a b c d : ℕ) (n : some (ltb 4) (a ∷ b ∷ c ∷ d ∷ []) ≡ fals
 pub some-above : (a b c d : ℕ) → some (ltb 4) (a ∷ b ∷ c ∷ d ∷ []) ≡ true
     → false ≡ not (some (ltb 4) (a ∷ b ∷ c ∷ d ∷ []) || (eqb a 0 || afterZero (a ∷ b ∷ c ∷ d ∷ [])))
 some-above a b c d e = rw e
-
--- of two dwords that keep their masks, the second does
-pub second-kept : (s t : Bool) → (s && (t && true)) ≡ true → t ≡ true
-second-kept s t e = and-left t true (and-right s (t && true) e)

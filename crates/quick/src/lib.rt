@@ -8,6 +8,7 @@ ghost use Rattle.rules.specs.Formats.{surfaceFormats};
 ghost use Rattle.rules.specs.Commands.{lengthOf, lengthRight};
 ghost use Rattle.sift.specs.Clean.{cleanOf};
 ghost use Rattle.quick.specs.Quick.{quickOf};
+use groups::grouped;
 use rows::length_of;
 use rows::length_right;
 use rules::Windows;
@@ -26,21 +27,18 @@ fn clean(w: Windows, row: usize, d: &[u32], formats: &[u16; 512]) -> bool
         0 => one(d, 0, 0x003F_FFFF),
         1 => one(d, 0, 0x0500_0000),
         2 => fixed::start(w, d, formats),
-        3 => groups::registers(w, d, formats),
         4 => fixed::store(w, d, formats),
         5 => fixed::store_register(w, d, formats),
         6 => fixed::load_register(w, d, formats),
         7 => fixed::pipe(w, d, formats),
         8 => one(d, 0, 0x6904_0000),
-        9 => fixed::base(d),
-        10 => groups::buffers(w, d, formats),
-        11 => groups::elements(w, d, formats),
+        9 => fixed::base(w, d),
         12 => fixed::index_buffer(w, d, formats),
         13 => fixed::topology(w, d, formats),
         14 => two(d, 0, 0x7823_00FF, 0xFFFF_FFE0),
         15 => two(d, 0, 0x780E_00FF, 0xFFFF_FFC1),
         16 => fixed::primitive(w, d, formats),
-        _ => false,
+        _ => grouped(w, row, d, formats),
     }
 }
 

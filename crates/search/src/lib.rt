@@ -25,7 +25,7 @@ pub enum Sought {
 }
 
 // Whether a range that is used does not fit.
-fn access_wrong(w: Windows, address: u64, access: Access) -> bool
+pub fn access_wrong(w: Windows, address: u64, access: Access) -> bool
     ensures { λ r. ⌜ r ≡ accessWrong w address access ⌝ }
 {
     match access {

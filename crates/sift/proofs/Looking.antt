@@ -1,47 +1,51 @@
--- Laws of the quick look: what finds nothing, the masks of a row, the stages of a row's tests, and the turns of a loop over groups.
+-- Laws of the look at a command's dwords: what finds nothing, the masks of a row, dwords behind each other, the one dword that can be wrong,
+-- what is left of a loop over groups, and the three tests together. All hold for any row and any length.
 -- Assumes nothing.
 use Prim.Native.Nat.{ℕ, zero, suc, _+_, _-_, _%_, _≤_, _<_}
 use native.Mathlib.Omega.{arith}
 use native.Mathlib.Numerals.{add-one}
+use native.Mathlib.Nat.{mod-eq-of-lt}
 use mathlib.Core.Path.{_≡_, refl, sym, ap, _∙_}
-use mathlib.Core.Bool.{Bool, true, false, not, _&&_, and-true, and-false, and-assoc, Bool·not-not}
+use mathlib.Core.Bool.{Bool, true, false, cond, not, _&&_, _||_, and-true, and-false, and-assoc, Bool·not-not}
 use mathlib.Core.List.{List, [], _∷_, _++_}
 use lib.ListN.{length, getD, take}
 use lib.Seq.{getD-take}
 use borrow.Author.Tests.{ne-eqb}
-use native.Mathlib.Nat.{mod-eq-of-lt}
 use Rattle.rules.specs.declared.Found.the-variants.{Nothing}
+use Rattle.rules.specs.declared.Access.{Access}
 use Rattle.rules.specs.declared.Windows.{Windows}
 use Rattle.rules.specs.Words.{allowed, inGroup, firstFrom, firstOf}
-use Rattle.rules.specs.Commands.{groupSize, masksOf, spot}
-use Rattle.rules.specs.Values.{Rule, noRule, ruleOf}
-use Rattle.rules.specs.Addresses.{Uses, noUse, accessOf, addressAt, accessWrong}
-use Rattle.rules.proofs.Searching.{search-passes, and-left, and-right}
+use Rattle.rules.specs.Commands.{groupSize, masksOf, spot, allowedAt, bitWrong}
+use Rattle.rules.specs.Values.{ruleOf, valueWrong}
+use Rattle.rules.specs.Addresses.{Uses, noUse, accessOf, addressAt, accessWrong, accessAt, rangeWrong}
+use Rattle.rules.proofs.Searching.{search-passes, some-left, some-right, and-left, and-right}
 use Rattle.search.specs.declared.Sought.{Sought}
 use Rattle.search.specs.declared.Sought.the-variants.{Bits, Values, Ranges}
 use Rattle.search.specs.Search.{wrongAt, wrong}
-use Rattle.search.proofs.SearchLaws.{in-group, wrong-at-spot}
-use Rattle.sift.specs.Clean.{freeFrom, free, cleanOf, maskedFrom}
+use Rattle.search.proofs.SearchLaws.{in-group}
+use Rattle.sift.specs.Clean.{freeFrom, faulty, cleanFrom, cleanOf, maskedFrom}
 
--- what is free of a fault has none to be found
-pub finds-nothing : (bad : ℕ → Bool) (k n : ℕ) → freeFrom bad k n ≡ true → firstFrom bad k n ≡ Nothing
-unfolding freeFrom firstFrom
-finds-nothing bad k zero e = refl
-finds-nothing bad k (suc n) e =
-    search-passes bad k n (sym (Bool·not-not (bad k)) ∙ ap not (and-left (not (bad k)) _ e))
-    ∙ finds-nothing bad (k + 1) n (and-right (not (bad k)) _ e)
+-- where one test finds nothing, another that finds no more finds nothing either
+module _ (bad worse : ℕ → Bool) (h : (i : ℕ) → worse i ≡ false → bad i ≡ false) where
+  pub finds-nothing : (k n : ℕ) → freeFrom worse k n ≡ true → firstFrom bad k n ≡ Nothing
+  unfolding freeFrom firstFrom
+  finds-nothing k zero e = refl
+  finds-nothing k (suc n) e =
+      search-passes bad k n (h k (sym (Bool·not-not (worse k)) ∙ ap not (and-left (not (worse k)) _ e)))
+      ∙ finds-nothing (k + 1) n (and-right (not (worse k)) _ e)
 
 -- so no search finds anything in a command that is clean
 pub clean-finds-nothing : (w : Windows) (r : ℕ) (d : List ℕ) → cleanOf w r d ≡ true → (what : Sought) → firstOf (wrong what w r d) (length d) ≡ Nothing
-unfolding cleanOf
-clean-finds-nothing w r d e Bits = finds-nothing _ 0 (length d) (and-left (free Bits w r d (length d)) _ e)
-clean-finds-nothing w r d e Values =
-    finds-nothing _ 0 (length d) (and-left (free Values w r d (length d)) _ (and-right (free Bits w r d (length d)) _ e))
-clean-finds-nothing w r d e Ranges =
-    finds-nothing _ 0 (length d) (and-right (free Values w r d (length d)) _ (and-right (free Bits w r d (length d)) _ e))
+unfolding faulty cleanOf wrong wrongAt allowedAt bitWrong valueWrong accessAt rangeWrong
+clean-finds-nothing w r d e what = finds-nothing (wrong what w r d) (faulty w r d) (among what) 0 (length d) e
+  where
+    among : (what : Sought) (i : ℕ) → faulty w r d i ≡ false → wrong what w r d i ≡ false
+    among Bits i e = some-left (bitWrong r d i) _ e
+    among Values i e = some-left (valueWrong r d i) _ (some-right (bitWrong r d i) _ e)
+    among Ranges i e = some-right (valueWrong r d i) _ (some-right (bitWrong r d i) _ e)
 
 -- the masks of dwords that stand behind each other
-pub masked-append : (d : List ℕ) (k : ℕ) (xs ys : List ℕ) → maskedFrom d k (xs ++ ys) ≡ (maskedFrom d k xs && maskedFrom d (k + length xs) ys)
+masked-append : (d : List ℕ) (k : ℕ) (xs ys : List ℕ) → maskedFrom d k (xs ++ ys) ≡ (maskedFrom d k xs && maskedFrom d (k + length xs) ys)
 unfolding maskedFrom
 masked-append d k [] ys = ap (λ (i : ℕ). maskedFrom d i ys) (omega arith)
 masked-append d k (x ∷ xs) ys =
@@ -49,26 +53,26 @@ masked-append d k (x ∷ xs) ys =
     (masked-append d (k + 1) xs ys ∙ ap (λ (i : ℕ). maskedFrom d (k + 1) xs && maskedFrom d i ys) (omega arith))
     ∙ sym (and-assoc (allowed (getD d k 0) x) (maskedFrom d (k + 1) xs) (maskedFrom d (k + length (x ∷ xs)) ys))
 
-pub joined : (d : List ℕ) (k j : ℕ) (xs ys : List ℕ) {a b : Bool} → a ≡ maskedFrom d k xs → b ≡ maskedFrom d j ys → k + length xs ≡ j
+pub masks-joined : (d : List ℕ) (k j : ℕ) (xs ys : List ℕ) {a b : Bool} → a ≡ maskedFrom d k xs → b ≡ maskedFrom d j ys → k + length xs ≡ j
     → (a && b) ≡ maskedFrom d k (xs ++ ys)
-joined d k j xs ys {a} {b} e f g =
+masks-joined d k j xs ys {a} {b} e f g =
     ap (λ t. t && b) e
     ∙ ap (λ t. maskedFrom d k xs && t) (f ∙ ap (λ (i : ℕ). maskedFrom d i ys) (sym g))
     ∙ sym (masked-append d k xs ys)
 
--- the dwords from k on are free of bits, where these are their masks
-module _ (w : Windows) (r : ℕ) (d : List ℕ) where
-  pub bits-from : (k : ℕ) (ms : List ℕ) → ((i : ℕ) → i < length ms → getD (masksOf r) (spot r (k + i)) 0 ≡ getD ms i 0)
-      → freeFrom (wrong Bits w r d) k (length ms) ≡ maskedFrom d k ms
-  unfolding freeFrom maskedFrom wrong wrongAt
+module _ (r : ℕ) (d : List ℕ) where
+  -- the dwords from k on, where these are their masks
+  bits-from : (k : ℕ) (ms : List ℕ) → ((i : ℕ) → i < length ms → getD (masksOf r) (spot r (k + i)) 0 ≡ getD ms i 0)
+      → freeFrom (bitWrong r d) k (length ms) ≡ maskedFrom d k ms
+  unfolding freeFrom maskedFrom allowedAt bitWrong
   bits-from k [] h = refl
   bits-from k (m ∷ ms) h =
       let e : getD (masksOf r) (spot r k) 0 ≡ m = ap (λ (i : ℕ). getD (masksOf r) (spot r i) 0) (omega arith) ∙ h 0 (omega arith) in
-      let t : freeFrom (wrong Bits w r d) (k + 1) (length ms) ≡ maskedFrom d (k + 1) ms =
+      let t : freeFrom (bitWrong r d) (k + 1) (length ms) ≡ maskedFrom d (k + 1) ms =
       bits-from (k + 1) ms (λ i l. ap (λ (j : ℕ). getD (masksOf r) (spot r j) 0) (omega arith) ∙ h (suc i) (omega arith)) in
       rw (Bool·not-not, e, t)
 
-  -- the dwords of one group and the header: each is the dword of its own number
+  -- the header and the dwords of one group: each is the dword of its own number
   own-spot : (i : ℕ) → i < length (masksOf r) → spot r i ≡ i
   unfolding inGroup masksOf groupSize
   own-spot zero h = refl
@@ -78,158 +82,196 @@ module _ (w : Windows) (r : ℕ) (d : List ℕ) where
       let n : (suc i ≡ 0 → ⊥) = λ q. omega arith in
       rw (ne-eqb (suc i) 0 n, p, mod-eq-of-lt m) (omega arith)
 
-  pub bits-are : {b : Bool} (ms : List ℕ) → take (length ms) (masksOf r) ≡ ms → length ms ≤ length (masksOf r) → b ≡ maskedFrom d 0 ms
-      → freeFrom (wrong Bits w r d) 0 (length ms) ≡ b
-  bits-are ms t l e =
-      bits-from 0 ms
+  pub bits-are : {b : Bool} (ms : List ℕ) → b ≡ maskedFrom d 0 ms → take (length ms) (masksOf r) ≡ ms → length ms ≤ length (masksOf r)
+      → b ≡ freeFrom (bitWrong r d) 0 (length ms)
+  bits-are ms e t l =
+      e
+      ∙ sym
+      (bits-from 0 ms
       (λ i m.
       ap (λ (j : ℕ). getD (masksOf r) j 0) (ap (spot r) (omega arith) ∙ own-spot i (omega arith))
       ∙ sym (getD-take (length ms) (masksOf r) i 0 m)
-      ∙ ap (λ (l : List ℕ). getD l i 0) t)
-      ∙ sym e
+      ∙ ap (λ (l : List ℕ). getD l i 0) t))
 
-  -- a row with no value rule, or no address
-  pub no-values : (k n : ℕ) → ruleOf r ≡ noRule → freeFrom (wrong Values w r d) k n ≡ true
-  unfolding freeFrom wrong wrongAt
-  no-values k zero e = refl
-  no-values k (suc n) e =
-      ap (λ (f : Rule). not (f d (spot r k) (getD d k 0)) && freeFrom (wrong Values w r d) (k + 1) n) e ∙ no-values (k + 1) n e
+  -- a group that starts at k: each of its dwords has its own number in the group
+  pub group-bits : (k : ℕ) → 1 ≤ k → (k - 1) % groupSize r ≡ 0 → {b : Bool} {h : ℕ} (ms : List ℕ) → b ≡ maskedFrom d k ms → masksOf r ≡ h ∷ ms
+      → groupSize r ≡ length ms → b ≡ freeFrom (bitWrong r d) k (length ms)
+  group-bits k s g {b} {h} ms t e l =
+      t
+      ∙ sym
+      (bits-from k ms
+      (λ i m.
+      ap (λ (j : ℕ). getD (masksOf r) j 0) (in-group (groupSize r) k i s g (omega arith) ∙ add-one i)
+      ∙ ap (λ (l : List ℕ). getD l (suc i) 0) e))
 
-  pub no-ranges : (k n : ℕ) → accessOf r ≡ noUse → freeFrom (wrong Ranges w r d) k n ≡ true
-  unfolding freeFrom wrong wrongAt
-  no-ranges k zero e = refl
-  no-ranges k (suc n) e =
-      ap (λ (f : Uses). not (accessWrong w (addressAt d k) (f d k (spot r k))) && freeFrom (wrong Ranges w r d) (k + 1) n) e
-      ∙ no-ranges (k + 1) n e
+  -- the bits of the dword k, its value, and the range that starts there, by its place in its group
+  pub bits-at : (k j m : ℕ) {b : Bool} → spot r k ≡ j → getD (masksOf r) j 0 ≡ m → b ≡ maskedFrom d k (m ∷ []) → b ≡ freeFrom (bitWrong r d) k 1
+  unfolding freeFrom maskedFrom allowedAt bitWrong
+  bits-at k j m s e f = rw (s, e, Bool·not-not) f
 
-  -- the stages of a row's tests, of a command of n dwords
-  module _ {n : ℕ} (e : length d ≡ n) where
-    pub bits-fail : freeFrom (wrong Bits w r d) 0 n ≡ false → false ≡ cleanOf w r d
-    unfolding cleanOf
-    bits-fail f = rw (e, f)
+  pub value-at : (k j : ℕ) {v : Bool} → spot r k ≡ j → v ≡ ruleOf r d j (getD d k 0) → not v ≡ freeFrom (valueWrong r d) k 1
+  unfolding freeFrom valueWrong
+  value-at k j {v} s e = rw (s, sym e, and-true)
 
-    pub values-fail : freeFrom (wrong Values w r d) 0 n ≡ false → false ≡ cleanOf w r d
-    unfolding cleanOf
-    values-fail f = rw (e, f, and-false)
+  pub range-at : (w : Windows) (k j : ℕ) {x : Bool} (a : Access) → spot r k ≡ j → accessOf r d k j ≡ a → x ≡ not (accessWrong w (addressAt d k) a)
+      → x ≡ freeFrom (rangeWrong w r d) k 1
+  unfolding freeFrom accessAt rangeWrong
+  range-at w k j a s e f = rw (s, e, and-true) f
 
-    pub ranges-fail : freeFrom (wrong Ranges w r d) 0 n ≡ false → false ≡ cleanOf w r d
-    unfolding cleanOf
-    ranges-fail f = rw (e, f, and-false, and-false)
+  -- a row with no address
+  pub no-ranges : (w : Windows) (k n : ℕ) → accessOf r ≡ noUse → true ≡ freeFrom (rangeWrong w r d) k n
+  unfolding freeFrom accessAt rangeWrong
+  no-ranges w k zero e = refl
+  no-ranges w k (suc n) e =
+      no-ranges w (k + 1) n e
+      ∙ ap (λ (f : Uses). not (accessWrong w (addressAt d k) (f d k (spot r k))) && freeFrom (rangeWrong w r d) (k + 1) n) (sym e)
 
-    -- where there is no range, the values decide
-    pub values-decide : {x : Bool} → freeFrom (wrong Bits w r d) 0 n ≡ true → freeFrom (wrong Values w r d) 0 n ≡ x
-        → freeFrom (wrong Ranges w r d) 0 n ≡ true → x ≡ cleanOf w r d
-    unfolding cleanOf
-    values-decide f g h = rw (e, f, g, h, and-true)
+-- a dword of a group that starts at k
+pub spot-in : (r k i : ℕ) {k' : ℕ} → 1 ≤ k → (k - 1) % groupSize r ≡ 0 → i < groupSize r → k' ≡ k + i → spot r k' ≡ i + 1
+spot-in r k i s g h e = ap (spot r) e ∙ in-group (groupSize r) k i s g h
 
-    pub all-stages : {x : Bool} → freeFrom (wrong Bits w r d) 0 n ≡ true → freeFrom (wrong Values w r d) 0 n ≡ true
-        → freeFrom (wrong Ranges w r d) 0 n ≡ x → x ≡ cleanOf w r d
-    unfolding cleanOf
-    all-stages f g h = rw (e, f, g, h)
+module _ (bad : ℕ → Bool) where
+  -- dwords, and those behind them
+  pub free-append : (k m n : ℕ) → freeFrom bad k (m + n) ≡ (freeFrom bad k m && freeFrom bad (k + m) n)
+  unfolding freeFrom
+  free-append k zero n =
+      let p : 0 + n ≡ n = omega arith in
+      let q : k + 0 ≡ k = omega arith in
+      rw (p, q)
+  free-append k (suc m) n =
+      let p : suc m + n ≡ suc (m + n) = omega arith in
+      let q : k + 1 + m ≡ k + suc m = omega arith in
+      rw (p, free-append (k + 1) m n, q) (sym (and-assoc (not (bad k)) (freeFrom bad (k + 1) m) (freeFrom bad (k + suc m) n)))
 
-  -- a row that has masks only
-  pub plain : (ms : List ℕ) → ruleOf r ≡ noRule → accessOf r ≡ noUse → length d ≡ length ms → take (length ms) (masksOf r) ≡ ms
-      → length ms ≤ length (masksOf r) → maskedFrom d 0 ms ≡ cleanOf w r d
-  unfolding cleanOf
-  plain ms v a l t m =
-      rw (l, bits-are {b = maskedFrom d 0 ms} ms t m refl, no-values 0 (length ms) v, no-ranges 0 (length ms) a, and-true)
+  pub joined : (k m n : ℕ) {a b : Bool} → a ≡ freeFrom bad k m → b ≡ freeFrom bad (k + m) n → (a && b) ≡ freeFrom bad k (m + n)
+  joined k m n {a} {b} e f = ap (λ t. t && b) e ∙ ap (λ t. freeFrom bad k m && t) f ∙ sym (free-append k m n)
 
--- what is left of a search that finds nothing so far: the dwords from k on decide
-pub record Left (bad : ℕ → Bool) (n k : ℕ) : Type 0 where
-  pub rest : freeFrom bad 0 n ≡ freeFrom bad k (n - k)
+-- of n dwords only the m from i on can be wrong, and x tells whether these are free
+abbrev pub Asked : (ℕ → Bool) → ℕ → ℕ → ℕ → Bool → Type 0
+Asked bad n i m x = (x ≡ freeFrom bad i m) × (freeFrom bad 0 i ≡ true) × (freeFrom bad (i + m) (n - (i + m)) ≡ true) × (i + m ≤ n)
 
-pub left-all : (bad : ℕ → Bool) (n : ℕ) → Left bad n 0
-left-all bad n = record { rest = ap (freeFrom bad 0) (omega arith) }
+all-asked : (bad : ℕ → Bool) (n i m : ℕ) {x : Bool} → Asked bad n i m x → x ≡ freeFrom bad 0 n
+all-asked bad n i m {x} a =
+    let p : i + (n - i) ≡ n = omega (arith, a .3) in
+    let q : m + (n - (i + m)) ≡ n - i = omega (arith, a .3) in
+    let z : 0 + i ≡ i = omega arith in
+    a .0
+    ∙ sym (and-true _)
+    ∙ ap (λ t. freeFrom bad i m && t) (sym (a .2))
+    ∙ sym (free-append bad i m (n - (i + m)))
+    ∙ ap (freeFrom bad i) q
+    ∙ ap (λ t. t && freeFrom bad i (n - i)) (sym (a .1))
+    ∙ ap (λ (k : ℕ). freeFrom bad 0 i && freeFrom bad k (n - i)) (sym z)
+    ∙ sym (free-append bad 0 i (n - i))
+    ∙ ap (freeFrom bad 0) p
 
-pub free-append : (bad : ℕ → Bool) (k m n : ℕ) → freeFrom bad k (m + n) ≡ (freeFrom bad k m && freeFrom bad (k + m) n)
-unfolding freeFrom
-free-append bad k zero n =
-    let p : 0 + n ≡ n = omega arith in
-    let q : k + 0 ≡ k = omega arith in
-    rw (p, q)
-free-append bad k (suc m) n =
-    let p : suc m + n ≡ suc (m + n) = omega arith in
-    let q : k + 1 + m ≡ k + suc m = omega arith in
-    rw (p, free-append bad (k + 1) m n, q) (sym (and-assoc (not (bad k)) (freeFrom bad (k + 1) m) (freeFrom bad (k + suc m) n)))
+-- what is left of a look at the dwords up to n: those from k on decide it
+pub record Left (bad : ℕ → Bool) (all : Bool) (n k : ℕ) : Type 0 where
+  pub rest : all ≡ freeFrom bad k (n - k)
 
-module _ {bad : ℕ → Bool} {n k : ℕ} (l : Left bad n k) where
-  parted : (m : ℕ) → k + m ≤ n → freeFrom bad 0 n ≡ (freeFrom bad k m && freeFrom bad (k + m) (n - (k + m)))
+module _ {bad : ℕ → Bool} {all : Bool} {n k : ℕ} (l : Left bad all n k) where
+  parted : (m : ℕ) → k + m ≤ n → all ≡ (freeFrom bad k m && freeFrom bad (k + m) (n - (k + m)))
   parted m h =
       let e : n - k ≡ m + (n - (k + m)) = omega arith in
       l .rest ∙ ap (freeFrom bad k) e ∙ free-append bad k m (n - (k + m))
 
   -- m dwords more are free, or they are not
-  pub turn : (m : ℕ) → k + m ≤ n → freeFrom bad k m ≡ true → Left bad n (k + m)
+  pub turn : (m : ℕ) → k + m ≤ n → freeFrom bad k m ≡ true → Left bad all n (k + m)
   turn m h e = record { rest = parted m h ∙ ap (λ t. t && freeFrom bad (k + m) (n - (k + m))) e }
 
-  pub stop : (m : ℕ) → k + m ≤ n → freeFrom bad k m ≡ false → freeFrom bad 0 n ≡ false
+  pub stop : (m : ℕ) → k + m ≤ n → freeFrom bad k m ≡ false → all ≡ false
   stop m h e = parted m h ∙ ap (λ t. t && freeFrom bad (k + m) (n - (k + m))) e
 
-  pub done : n ≤ k → freeFrom bad 0 n ≡ true
+  pub done : n ≤ k → all ≡ true
   unfolding freeFrom
   done h = let e : n - k ≡ 0 = omega arith in l .rest ∙ ap (freeFrom bad k) e
 
--- a group at k: each of its dwords has its own number in the group
-module _ (w : Windows) (r : ℕ) (d : List ℕ) (k : ℕ) (s : 1 ≤ k) (g : (k - 1) % groupSize r ≡ 0) where
-  pub group-bits : {b : Bool} {h : ℕ} (ms : List ℕ) → masksOf r ≡ h ∷ ms → groupSize r ≡ length ms → b ≡ maskedFrom d k ms
-      → freeFrom (wrong Bits w r d) k (length ms) ≡ b
-  group-bits {b} {h} ms e l t =
-      bits-from w r d k ms
-      (λ i m.
-      ap (λ (j : ℕ). getD (masksOf r) j 0) (in-group (groupSize r) k i s g (omega arith) ∙ add-one i)
-      ∙ ap (λ (l : List ℕ). getD l (suc i) 0) e)
-      ∙ sym t
+-- the three tests together: bits, values, ranges
+together : (a b c x y z : Bool) → ((not a && x) && ((not b && y) && (not c && z))) ≡ (not (a || (b || c)) && (x && (y && z)))
+together true b c x y z = refl
+together false true c x y z = and-false x
+together false false true x y z = ap (λ t. x && t) (and-false y) ∙ and-false x
+together false false false x y z = refl
 
-  at-spot : (what : Sought) (i : ℕ) → i < groupSize r → wrong what w r d (k + i) ≡ wrongAt what w r d (k + i) (i + 1)
-  at-spot what i h = wrong-at-spot what w r d (k + i) (i + 1) (in-group (groupSize r) k i s g h)
+module _ (w : Windows) (r : ℕ) (d : List ℕ) where
+  all-three : (k n : ℕ)
+      → (freeFrom (bitWrong r d) k n && (freeFrom (valueWrong r d) k n && freeFrom (rangeWrong w r d) k n)) ≡ cleanFrom w r d k n
+  unfolding freeFrom faulty
+  all-three k zero = refl
+  all-three k (suc n) =
+      together (bitWrong r d k) (valueWrong r d k) (rangeWrong w r d k) _ _ _
+      ∙ ap (λ t. not (faulty w r d k) && t) (all-three (k + 1) n)
 
-  pub first-spot : (what : Sought) → 0 < groupSize r → wrong what w r d k ≡ wrongAt what w r d k 1
-  first-spot what h = wrong-at-spot what w r d k 1 (ap (inGroup (groupSize r)) (omega arith) ∙ in-group (groupSize r) k 0 s g h)
+  -- one of the tests fails, or the last of them decides
+  module _ (k n : ℕ) where
+    pub bits-fail : {b : Bool} → b ≡ freeFrom (bitWrong r d) k n → b ≡ false → false ≡ cleanFrom w r d k n
+    bits-fail e f = ap (λ t. t && (freeFrom (valueWrong r d) k n && freeFrom (rangeWrong w r d) k n)) (sym f ∙ e) ∙ all-three k n
 
-  -- the values of a group of two, and the values and the ranges of a group of four
-  pub pair : (what : Sought) → groupSize r ≡ 2
-      → freeFrom (wrong what w r d) k 2 ≡ (not (wrongAt what w r d k 1) && not (wrongAt what w r d (k + 1) 2))
-  unfolding freeFrom
-  pair what e = rw (first-spot what (omega arith), at-spot what 1 (omega arith), and-true)
+    pub values-fail : {v : Bool} → v ≡ freeFrom (valueWrong r d) k n → v ≡ false → false ≡ cleanFrom w r d k n
+    values-fail e f =
+        sym (and-false (freeFrom (bitWrong r d) k n))
+        ∙ ap (λ t. freeFrom (bitWrong r d) k n && (t && freeFrom (rangeWrong w r d) k n)) (sym f ∙ e)
+        ∙ all-three k n
 
-  pub quad : (what : Sought) → groupSize r ≡ 4
-      → freeFrom (wrong what w r d) k 4
-      ≡ (not (wrongAt what w r d k 1)
-      && (not (wrongAt what w r d (k + 1) 2) && (not (wrongAt what w r d (k + 2) 3) && not (wrongAt what w r d (k + 3) 4))))
-  unfolding freeFrom
-  quad what e =
-      rw (
-        first-spot what (omega arith),
-        at-spot what 1 (omega arith),
-        ap (λ (i : ℕ). wrong what w r d i) two-on ∙ at-spot what 2 (omega arith),
-        ap (λ (i : ℕ). wrong what w r d i) three-on ∙ at-spot what 3 (omega arith),
-        and-true,
-      )
-    where
-      two-on : k + 1 + 1 ≡ k + 2
-      two-on = omega arith
+    pub ranges-decide : {b v x : Bool} → b ≡ freeFrom (bitWrong r d) k n → b ≡ true → v ≡ freeFrom (valueWrong r d) k n → v ≡ true
+        → x ≡ freeFrom (rangeWrong w r d) k n → x ≡ cleanFrom w r d k n
+    ranges-decide e p f q g =
+        g
+        ∙ ap (λ t. t && freeFrom (rangeWrong w r d) k n) (sym q ∙ f)
+        ∙ ap (λ t. t && (freeFrom (valueWrong r d) k n && freeFrom (rangeWrong w r d) k n)) (sym p ∙ e)
+        ∙ all-three k n
 
-      three-on : k + 1 + 1 + 1 ≡ k + 3
-      three-on = omega arith
+    -- where there is no address, and where there is no value rule either
+    pub values-decide : {b v : Bool} → b ≡ freeFrom (bitWrong r d) k n → b ≡ true → v ≡ freeFrom (valueWrong r d) k n
+        → true ≡ freeFrom (rangeWrong w r d) k n → v ≡ cleanFrom w r d k n
+    values-decide {b} {v} e p f g =
+        sym (and-true v)
+        ∙ ap (λ t. t && (v && true)) (sym p ∙ e)
+        ∙ ap (λ t. freeFrom (bitWrong r d) k n && (t && true)) f
+        ∙ ap (λ t. freeFrom (bitWrong r d) k n && (freeFrom (valueWrong r d) k n && t)) g
+        ∙ all-three k n
 
-  -- and what each of them tells of the group
-  module _ (what : Sought) (e : groupSize r ≡ 2) where
-    pub pair-free : wrongAt what w r d k 1 ≡ false → wrongAt what w r d (k + 1) 2 ≡ false → freeFrom (wrong what w r d) k 2 ≡ true
-    pair-free f h = pair what e ∙ rw (f, h)
+    pub bits-decide : {b : Bool} → b ≡ freeFrom (bitWrong r d) k n → true ≡ freeFrom (valueWrong r d) k n → true ≡ freeFrom (rangeWrong w r d) k n
+        → b ≡ cleanFrom w r d k n
+    bits-decide {b} e f g =
+        sym (and-true b)
+        ∙ ap (λ t. t && true) e
+        ∙ ap (λ t. freeFrom (bitWrong r d) k n && (t && true)) f
+        ∙ ap (λ t. freeFrom (bitWrong r d) k n && (freeFrom (valueWrong r d) k n && t)) g
+        ∙ all-three k n
 
-    pub pair-first : wrongAt what w r d k 1 ≡ true → freeFrom (wrong what w r d) k 2 ≡ false
-    pair-first f = pair what e ∙ rw f
+  -- all the dwords of a command
+  pub clean-command : (n : ℕ) {a : Bool} → a ≡ cleanFrom w r d 0 n → length d ≡ n → a ≡ cleanOf w r d
+  unfolding cleanOf
+  clean-command n e l = e ∙ ap (cleanFrom w r d 0) (sym l)
 
-    pub pair-second : wrongAt what w r d (k + 1) 2 ≡ true → freeFrom (wrong what w r d) k 2 ≡ false
-    pair-second f = pair what e ∙ rw (f, and-false)
+  -- a command of one group: its masks, and of its values and ranges those that its row asks for
+  module _ (n : ℕ) (l : length d ≡ n) where
+    pub row-bits-fail : {b : Bool} → b ≡ freeFrom (bitWrong r d) 0 n → b ≡ false → false ≡ cleanOf w r d
+    row-bits-fail e f = clean-command n (bits-fail 0 n e f) l
 
-  module _ (what : Sought) (e : groupSize r ≡ 4) where
-    pub quad-free : wrongAt what w r d k 1 ≡ false → wrongAt what w r d (k + 1) 2 ≡ false → wrongAt what w r d (k + 2) 3 ≡ false
-        → wrongAt what w r d (k + 3) 4 ≡ false → freeFrom (wrong what w r d) k 4 ≡ true
-    quad-free f h i j = quad what e ∙ rw (f, h, i, j)
+    pub row-values-fail : {v : Bool} (i m : ℕ) → Asked (valueWrong r d) n i m v → v ≡ false → false ≡ cleanOf w r d
+    row-values-fail i m e f = clean-command n (values-fail 0 n (all-asked _ n i m e) f) l
 
-    pub quad-first : wrongAt what w r d k 1 ≡ true → freeFrom (wrong what w r d) k 4 ≡ false
-    quad-first f = quad what e ∙ rw f
+    pub row-ranges-decide : {b v x : Bool} (i m a o : ℕ) → b ≡ freeFrom (bitWrong r d) 0 n → b ≡ true → Asked (valueWrong r d) n i m v → v ≡ true
+        → Asked (rangeWrong w r d) n a o x → x ≡ cleanOf w r d
+    row-ranges-decide i m a o e p f q g = clean-command n (ranges-decide 0 n e p (all-asked _ n i m f) q (all-asked _ n a o g)) l
 
-    pub quad-second : wrongAt what w r d (k + 1) 2 ≡ true → freeFrom (wrong what w r d) k 4 ≡ false
-    quad-second f = quad what e ∙ rw (f, and-false)
+    pub row-values-decide : {b v : Bool} (i m : ℕ) → b ≡ freeFrom (bitWrong r d) 0 n → b ≡ true → Asked (valueWrong r d) n i m v
+        → Asked (rangeWrong w r d) n 0 0 true → v ≡ cleanOf w r d
+    row-values-decide i m e p f g = clean-command n (values-decide 0 n e p (all-asked _ n i m f) (all-asked _ n 0 0 g)) l
+
+    pub row-bits-decide : {b : Bool} → b ≡ freeFrom (bitWrong r d) 0 n → Asked (valueWrong r d) n 0 0 true → Asked (rangeWrong w r d) n 0 0 true
+        → b ≡ cleanOf w r d
+    row-bits-decide e f g = clean-command n (bits-decide 0 n e (all-asked _ n 0 0 f) (all-asked _ n 0 0 g)) l
+
+-- a command of five dwords or of four
+pub either-length : (t : Bool) {n : ℕ} → n ≡ cond t 5 4 → (4 ≤ n) × ((n ≡ 4 → ⊥) → n ≡ 5)
+either-length true e = (omega arith, λ l. e)
+either-length false e = (omega arith, λ l. absurd (l e))
+
+-- of which only the dword 1 can be wrong
+pub only-second : (bad : ℕ → Bool) (t : Bool) {n : ℕ} {x : Bool} → n ≡ cond t 5 4 → x ≡ freeFrom bad 1 1 → freeFrom bad 0 1 ≡ true
+    → freeFrom bad 2 2 ≡ true → freeFrom bad 2 3 ≡ true → Asked bad n 1 1 x
+only-second bad true e x first four five = (x, first, ap (λ (n : ℕ). freeFrom bad 2 (n - 2)) e ∙ five, omega arith)
+only-second bad false e x first four five = (x, first, ap (λ (n : ℕ). freeFrom bad 2 (n - 2)) e ∙ four, omega arith)

@@ -1,21 +1,34 @@
-// The rows of one length, and row 4 with its two: masks (10), then values (12), then the range (13). A free dword has a mask too, so that
-// all of a row's dwords are seen to have one; it costs nothing.
+// The rows of one length, and row 4 with its two: the masks of all dwords (10), the dwords that have a rule (12), the address (13). A free
+// dword has a mask too, so that all of a row's dwords are seen to have one; it costs nothing.
 ghost use mathlib.Core.Path.{_≡_};
-ghost use mathlib.Core.Bool.{cond};
-ghost use Prim.Native.Nat.{_/_, _%_};
+ghost use mathlib.Core.Bool.{cond, not};
+ghost use Prim.Native.Nat.{_<_};
 ghost use lib.ListN.{length, getD};
 ghost use Rattle.rules.specs.Words.{bit};
 ghost use Rattle.rules.specs.Formats.{surfaceFormats};
-ghost use Rattle.rules.specs.Commands.{masksOf};
-ghost use Rattle.search.specs.declared.Sought.the-variants.{Values};
-ghost use Rattle.sift.specs.Clean.{free, cleanOf, maskedFrom};
+ghost use Rattle.rules.specs.Commands.{bitWrong};
+ghost use Rattle.rules.specs.Addresses.{addressAt, accessWrong};
+ghost use Rattle.sift.specs.Clean.{freeFrom, cleanOf};
 use crate::masks::four;
 use crate::masks::one;
 use crate::masks::two;
+use crate::values;
+use commands::addresses::index_buffer_use;
+use commands::addresses::pipe_use;
+use commands::addresses::store_use;
 use commands::dwords::address_at;
-use commands::values::value_wrong;
+use rules::Access;
 use rules::Allowed;
 use rules::Windows;
+use search::access_wrong;
+
+// Whether the address that starts at k fits, if it is used.
+pub fn held(w: Windows, d: &[u32], k: usize, access: Access) -> bool
+    requires { ⌜ k < length (now d) ⌝ }
+    ensures { λ r. ⌜ r ≡ not (accessWrong w (addressAt (now (d .entry)) k) access) ⌝ }
+{
+    !access_wrong(w, address_at(d, k), access)
+}
 
 pub fn start(w: Windows, d: &[u32], formats: &[u16; 512]) -> bool
     requires { ⌜ (length (now d) ≡ 3) × (now formats ≡ surfaceFormats) ⌝ }
@@ -24,49 +37,35 @@ pub fn start(w: Windows, d: &[u32], formats: &[u16; 512]) -> bool
     if !(two(d, 0, 0x18C0_01FF, 0xFFFF_FFFC) & one(d, 2, 0xFFFF)) {
         return false;
     }
-    if value_wrong(2, d, 0, d[0], formats) {
+    if !values::one(2, d, 0, 0, formats) {
         return false;
     }
-    windows::fits(w, Allowed::BatchOnly, address_at(d, 1), 4)
+    held(w, d, 1, Access::Reaches(4, Allowed::BatchOnly))
 }
 
-// A store of eight bytes, with bit 21 set.
-fn store_long(w: Windows, d: &[u32], formats: &[u16; 512]) -> bool
-    requires { ⌜ (length (now d) ≡ 5) × (getD (now d) 0 0 / 0x200000 % 2 ≡ 1) × (now formats ≡ surfaceFormats) ⌝ }
-    ensures { λ r. ⌜ r ≡ cleanOf w 4 (now (d .entry)) ⌝ }
+// Bit 21 of the header tells the length: a store of eight bytes has a dword more.
+fn store_masks(d: &[u32]) -> bool
+    requires { ⌜ length (now d) ≡ cond (bit (getD (now d) 0 0) 21) 5 4 ⌝ }
+    ensures { λ r. ⌜ r ≡ freeFrom (bitWrong 4 (now (d .entry))) 0 (length (now (d .entry))) ⌝ }
 {
-    if !(four(d, 0, 0x1020_00FF, 0xFFFF_FFFC, 0xFFFF, 0xFFFF_FFFF) & one(d, 4, 0xFFFF_FFFF)) {
-        return false;
+    let short = four(d, 0, 0x1020_00FF, 0xFFFF_FFFC, 0xFFFF, 0xFFFF_FFFF);
+    if d.len() == 4 {
+        return short;
     }
-    if value_wrong(4, d, 1, d[1], formats) {
-        return false;
-    }
-    windows::fits(w, Allowed::ScratchOnly, address_at(d, 1), 8)
-}
-
-// A store of four bytes.
-fn store_short(w: Windows, d: &[u32], formats: &[u16; 512]) -> bool
-    requires { ⌜ (length (now d) ≡ 4) × (getD (now d) 0 0 / 0x200000 % 2 ≡ 1 → ⊥) × (now formats ≡ surfaceFormats) ⌝ }
-    ensures { λ r. ⌜ r ≡ cleanOf w 4 (now (d .entry)) ⌝ }
-{
-    if !four(d, 0, 0x1020_00FF, 0xFFFF_FFFC, 0xFFFF, 0xFFFF_FFFF) {
-        return false;
-    }
-    if value_wrong(4, d, 1, d[1], formats) {
-        return false;
-    }
-    windows::fits(w, Allowed::ScratchOnly, address_at(d, 1), 4)
+    short & one(d, 4, 0xFFFF_FFFF)
 }
 
 pub fn store(w: Windows, d: &[u32], formats: &[u16; 512]) -> bool
     requires { ⌜ (length (now d) ≡ cond (bit (getD (now d) 0 0) 21) 5 4) × (now formats ≡ surfaceFormats) ⌝ }
     ensures { λ r. ⌜ r ≡ cleanOf w 4 (now (d .entry)) ⌝ }
 {
-    if d[0] / 0x20_0000 % 2 == 1 {
-        store_long(w, d, formats)
-    } else {
-        store_short(w, d, formats)
+    if !store_masks(d) {
+        return false;
     }
+    if !values::one(4, d, 1, 1, formats) {
+        return false;
+    }
+    held(w, d, 1, store_use(d, 1))
 }
 
 pub fn store_register(w: Windows, d: &[u32], formats: &[u16; 512]) -> bool
@@ -76,10 +75,10 @@ pub fn store_register(w: Windows, d: &[u32], formats: &[u16; 512]) -> bool
     if !four(d, 0, 0x1200_00FF, 0x007F_FFFC, 0xFFFF_FFFC, 0xFFFF) {
         return false;
     }
-    if value_wrong(5, d, 1, d[1], formats) {
+    if !values::one(5, d, 1, 1, formats) {
         return false;
     }
-    windows::fits(w, Allowed::ScratchOnly, address_at(d, 2), 4)
+    held(w, d, 2, Access::Reaches(4, Allowed::ScratchOnly))
 }
 
 pub fn load_register(w: Windows, d: &[u32], formats: &[u16; 512]) -> bool
@@ -89,20 +88,10 @@ pub fn load_register(w: Windows, d: &[u32], formats: &[u16; 512]) -> bool
     if !four(d, 0, 0x1480_00FF, 0x007F_FFFC, 0xFFFF_FFFC, 0xFFFF) {
         return false;
     }
-    if value_wrong(6, d, 1, d[1], formats) {
+    if !values::one(6, d, 1, 1, formats) {
         return false;
     }
-    windows::fits(w, Allowed::AnyWindow, address_at(d, 2), 4)
-}
-
-// Whether the dwords behind the first keep the rule.
-fn pipe_values(w: Windows, d: &[u32], formats: &[u16; 512]) -> bool
-    requires { ⌜ (length (now d) ≡ 6) × (now formats ≡ surfaceFormats) ⌝ }
-    ensures { λ r. ⌜ r ≡ free Values w 7 (now (d .entry)) 6 ⌝ }
-{
-    !(value_wrong(7, d, 2, d[2], formats)
-        | (value_wrong(7, d, 3, d[3], formats)
-            | (value_wrong(7, d, 4, d[4], formats) | value_wrong(7, d, 5, d[5], formats))))
+    held(w, d, 2, Access::Reaches(4, Allowed::AnyWindow))
 }
 
 pub fn pipe(w: Windows, d: &[u32], formats: &[u16; 512]) -> bool
@@ -113,18 +102,16 @@ pub fn pipe(w: Windows, d: &[u32], formats: &[u16; 512]) -> bool
         & two(d, 4, 0xFFFF_FFFF, 0xFFFF_FFFF)) {
         return false;
     }
-    if !pipe_values(w, d, formats) {
+    if !(values::two(7, d, 0, 0, formats)
+        & (values::two(7, d, 2, 2, formats) & values::two(7, d, 4, 4, formats))) {
         return false;
     }
-    if d[1] / 0x4000 % 4 == 0 {
-        return true;
-    }
-    windows::fits(w, Allowed::ScratchOnly, address_at(d, 2), 8)
+    held(w, d, 2, pipe_use(d, 2))
 }
 
-pub fn base(d: &[u32]) -> bool
+pub fn base(w: Windows, d: &[u32]) -> bool
     requires { ⌜ length (now d) ≡ 16 ⌝ }
-    ensures { λ r. ⌜ r ≡ maskedFrom (now (d .entry)) 0 (masksOf 9) ⌝ }
+    ensures { λ r. ⌜ r ≡ cleanOf w 9 (now (d .entry)) ⌝ }
 {
     (four(d, 0, 0x6101_00FF, 0xFFFF_F7F1, 0xFFFF, 0x007F_0000)
         & four(d, 4, 0xFFFF_F7F1, 0xFFFF, 0xFFFF_F7F1, 0xFFFF))
@@ -139,14 +126,10 @@ pub fn index_buffer(w: Windows, d: &[u32], formats: &[u16; 512]) -> bool
     if !(four(d, 0, 0x780A_00FF, 0x037F, 0xFFFF_FFFF, 0xFFFF) & one(d, 4, 0xFFFF_FFFF)) {
         return false;
     }
-    if value_wrong(12, d, 1, d[1], formats) {
+    if !values::one(12, d, 1, 1, formats) {
         return false;
     }
-    let size = d[4];
-    if size == 0 {
-        return true;
-    }
-    windows::fits(w, Allowed::AnyWindow, address_at(d, 2), size as u64)
+    held(w, d, 2, index_buffer_use(d, 2, 2))
 }
 
 pub fn topology(w: Windows, d: &[u32], formats: &[u16; 512]) -> bool
@@ -156,17 +139,7 @@ pub fn topology(w: Windows, d: &[u32], formats: &[u16; 512]) -> bool
     if !two(d, 0, 0x784B_00FF, 0x003F) {
         return false;
     }
-    !value_wrong(13, d, 1, d[1], formats)
-}
-
-// Whether the dwords behind the first keep the rule.
-fn primitive_values(w: Windows, d: &[u32], formats: &[u16; 512]) -> bool
-    requires { ⌜ (length (now d) ≡ 7) × (now formats ≡ surfaceFormats) ⌝ }
-    ensures { λ r. ⌜ r ≡ free Values w 16 (now (d .entry)) 7 ⌝ }
-{
-    !(value_wrong(16, d, 1, d[1], formats)
-        | (value_wrong(16, d, 3, d[3], formats)
-            | (value_wrong(16, d, 5, d[5], formats) | value_wrong(16, d, 6, d[6], formats))))
+    values::one(13, d, 1, 1, formats)
 }
 
 pub fn primitive(w: Windows, d: &[u32], formats: &[u16; 512]) -> bool
@@ -177,5 +150,7 @@ pub fn primitive(w: Windows, d: &[u32], formats: &[u16; 512]) -> bool
         & (two(d, 4, 0xFFFF_FFFF, 0xFFFF_FFFF) & one(d, 6, 0xFFFF_FFFF))) {
         return false;
     }
-    primitive_values(w, d, formats)
+    values::two(16, d, 0, 0, formats)
+        & (values::two(16, d, 2, 2, formats)
+            & (values::two(16, d, 4, 4, formats) & values::one(16, d, 6, 6, formats)))
 }

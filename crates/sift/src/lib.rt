@@ -1,4 +1,5 @@
-// The tests of a command's dwords (10, 12, 13), row by row, as a yes or no: a row's masks, values and ranges in one function, with the
-// masks as numbers, so that no table is read. Here the rows of one length; those of groups stand in `quick`.
+// Whether anything at all is wrong with a command's dwords (10, 12, 13): the searches, unrolled for the rows of one length. Each row stands in
+// one function with its masks as numbers, so that no table is read. The rows of groups stand in `quick`.
 pub mod fixed;
 pub mod masks;
+pub mod values;

@@ -1,14 +1,16 @@
--- `quick::clean` meets its contract: an arm for each row, with the length that the row has.
+-- `quick::clean` meets its contract: an arm for each row of one length, with the length that it has, and one for the rows of groups.
 -- Assumes nothing.
-use mathlib.Core.Path.{refl, _∙_}
+use mathlib.Core.Path.{refl}
 use native.Mathlib.Omega.{arith}
 use lib.Dec.{lit≤}
+use Rattle.rules.specs.Words.{inGroup}
 use Rattle.rules.specs.Commands.{rows, theRow, groupSize, masksOf}
-use Rattle.rules.specs.Values.{valueRules, ruleOf}
-use Rattle.rules.specs.Addresses.{usesByRow, accessOf}
-use Rattle.rows.proofs.RowLaws.{past}
-use Rattle.quick.proofs.Lengths.{length-one, length-exactly, length-by-bit, length-groups}
-use Rattle.sift.proofs.Looking.{plain}
+use Rattle.rules.specs.Values.{valueRules, ruleOf, valueWrong}
+use Rattle.rules.specs.Addresses.{usesByRow, accessOf, accessAt, rangeWrong}
+use Rattle.sift.specs.Clean.{freeFrom}
+use Rattle.sift.proofs.Looking.{bits-are, row-bits-decide}
+use Rattle.quick.proofs.Lengths.{length-one, length-exactly, length-by-bit}
+use Rattle.quick.proofs.WholeGroups.{of-groups, counted}
 use Rattle.quick.proofs.clean.Statement.{statement}
 use Rattle.quick.proofs.clean.Tie as tie
 
@@ -24,121 +26,102 @@ start-requires : tie.Need-start-requires
 unfolding rows theRow
 start-requires c κs = (length-exactly 2 (c .before .before .args .d .now) (c .match .keys3) (c .before .before .pre .1) (c .before .before .pre .2) 1 refl, c .before .before .pre .3)
 
-registers-requires : tie.Need-registers-requires
-unfolding rows theRow groupSize
-registers-requires c κs = let g = length-groups 3 (c .before .before .args .d .now) (c .match .keys4) (c .before .before .pre .1) (c .before .before .pre .2) 64 2 refl refl in (g .0, g .1, c .before .before .pre .3)
-
 store-requires : tie.Need-store-requires
 unfolding rows theRow
-store-requires c κs = (length-by-bit 4 (c .before .before .args .d .now) (c .match .keys5) (c .before .before .pre .1) (c .before .before .pre .2) 21 2 3 refl, c .before .before .pre .3)
+store-requires c κs = (length-by-bit 4 (c .before .before .args .d .now) (c .match .keys4) (c .before .before .pre .1) (c .before .before .pre .2) 21 2 3 refl, c .before .before .pre .3)
 
 store-register-requires : tie.Need-store-register-requires
 unfolding rows theRow
-store-register-requires c κs = (length-exactly 5 (c .before .before .args .d .now) (c .match .keys6) (c .before .before .pre .1) (c .before .before .pre .2) 2 refl, c .before .before .pre .3)
+store-register-requires c κs = (length-exactly 5 (c .before .before .args .d .now) (c .match .keys5) (c .before .before .pre .1) (c .before .before .pre .2) 2 refl, c .before .before .pre .3)
 
 load-register-requires : tie.Need-load-register-requires
 unfolding rows theRow
-load-register-requires c κs = (length-exactly 6 (c .before .before .args .d .now) (c .match .keys7) (c .before .before .pre .1) (c .before .before .pre .2) 2 refl, c .before .before .pre .3)
+load-register-requires c κs = (length-exactly 6 (c .before .before .args .d .now) (c .match .keys6) (c .before .before .pre .1) (c .before .before .pre .2) 2 refl, c .before .before .pre .3)
 
 pipe-requires : tie.Need-pipe-requires
 unfolding rows theRow
-pipe-requires c κs = (length-exactly 7 (c .before .before .args .d .now) (c .match .keys8) (c .before .before .pre .1) (c .before .before .pre .2) 4 refl, c .before .before .pre .3)
+pipe-requires c κs = (length-exactly 7 (c .before .before .args .d .now) (c .match .keys7) (c .before .before .pre .1) (c .before .before .pre .2) 4 refl, c .before .before .pre .3)
 
 one-requires-3 : tie.Need-one-requires-3
 unfolding rows theRow
-one-requires-3 c κs = omega (arith, length-one 8 (c .before .before .args .d .now) (c .match .keys9) (c .before .before .pre .1) (c .before .before .pre .2) refl)
+one-requires-3 c κs = omega (arith, length-one 8 (c .before .before .args .d .now) (c .match .keys8) (c .before .before .pre .1) (c .before .before .pre .2) refl)
 
 base-requires : tie.Need-base-requires
 unfolding rows theRow
-base-requires c κs = length-exactly 9 (c .before .before .args .d .now) (c .match .keys10) (c .before .before .pre .1) (c .before .before .pre .2) 14 refl
-
-buffers-requires : tie.Need-buffers-requires
-unfolding rows theRow groupSize
-buffers-requires c κs = let g = length-groups 10 (c .before .before .args .d .now) (c .match .keys11) (c .before .before .pre .1) (c .before .before .pre .2) 33 4 refl refl in (g .0, g .1, c .before .before .pre .3)
-
-elements-requires : tie.Need-elements-requires
-unfolding rows theRow groupSize
-elements-requires c κs = let g = length-groups 11 (c .before .before .args .d .now) (c .match .keys12) (c .before .before .pre .1) (c .before .before .pre .2) 34 2 refl refl in (g .0, g .1, c .before .before .pre .3)
+base-requires c κs = length-exactly 9 (c .before .before .args .d .now) (c .match .keys9) (c .before .before .pre .1) (c .before .before .pre .2) 14 refl
 
 index-buffer-requires : tie.Need-index-buffer-requires
 unfolding rows theRow
-index-buffer-requires c κs = (length-exactly 12 (c .before .before .args .d .now) (c .match .keys13) (c .before .before .pre .1) (c .before .before .pre .2) 3 refl, c .before .before .pre .3)
+index-buffer-requires c κs = (length-exactly 12 (c .before .before .args .d .now) (c .match .keys10) (c .before .before .pre .1) (c .before .before .pre .2) 3 refl, c .before .before .pre .3)
 
 topology-requires : tie.Need-topology-requires
 unfolding rows theRow
-topology-requires c κs = (length-exactly 13 (c .before .before .args .d .now) (c .match .keys14) (c .before .before .pre .1) (c .before .before .pre .2) 0 refl, c .before .before .pre .3)
+topology-requires c κs = (length-exactly 13 (c .before .before .args .d .now) (c .match .keys11) (c .before .before .pre .1) (c .before .before .pre .2) 0 refl, c .before .before .pre .3)
 
 two-requires : tie.Need-two-requires
 unfolding rows theRow
-two-requires c κs = omega (arith, length-exactly 14 (c .before .before .args .d .now) (c .match .keys15) (c .before .before .pre .1) (c .before .before .pre .2) 0 refl)
+two-requires c κs = omega (arith, length-exactly 14 (c .before .before .args .d .now) (c .match .keys12) (c .before .before .pre .1) (c .before .before .pre .2) 0 refl)
 
 two-requires-2 : tie.Need-two-requires-2
 unfolding rows theRow
-two-requires-2 c κs = omega (arith, length-exactly 15 (c .before .before .args .d .now) (c .match .keys16) (c .before .before .pre .1) (c .before .before .pre .2) 0 refl)
+two-requires-2 c κs = omega (arith, length-exactly 15 (c .before .before .args .d .now) (c .match .keys13) (c .before .before .pre .1) (c .before .before .pre .2) 0 refl)
 
 primitive-requires : tie.Need-primitive-requires
 unfolding rows theRow
-primitive-requires c κs = (length-exactly 16 (c .before .before .args .d .now) (c .match .keys17) (c .before .before .pre .1) (c .before .before .pre .2) 5 refl, c .before .before .pre .3)
+primitive-requires c κs = (length-exactly 16 (c .before .before .args .d .now) (c .match .keys14) (c .before .before .pre .1) (c .before .before .pre .2) 5 refl, c .before .before .pre .3)
+
+grouped-requires : tie.Need-grouped-requires
+grouped-requires c κs = let p = c .before .before .pre in let g = of-groups _ (p .0) (c .match .rest) in let n = counted _ (c .before .before .args .d .now) g (p .1) (p .2) in (g, n .0, n .1, p .3)
 
 returns : tie.Need-returns
-unfolding rows theRow masksOf valueRules ruleOf usesByRow accessOf
-returns c = rw (c .before .match .keys1) (c .one .ensures ∙ plain _ 0 _ _ refl refl (length-one 0 (c .before .before .before .args .d .now) (c .before .match .keys1) (c .before .before .before .pre .1) (c .before .before .before .pre .2) refl) refl (lit≤ tt))
+unfolding rows theRow masksOf groupSize inGroup freeFrom valueRules ruleOf valueWrong usesByRow accessOf accessAt rangeWrong
+returns c = rw (c .before .match .keys1) (row-bits-decide _ 0 _ 1 (length-one 0 (c .before .before .before .args .d .now) (c .before .match .keys1) (c .before .before .before .pre .1) (c .before .before .before .pre .2) refl) (bits-are 0 _ _ (c .one .ensures) refl (lit≤ tt)) (refl, refl, refl, lit≤ tt) (refl, refl, refl, lit≤ tt))
 
 returns-2 : tie.Need-returns-2
-unfolding rows theRow masksOf valueRules ruleOf usesByRow accessOf
-returns-2 c = rw (c .before .match .keys2) (c .one2 .ensures ∙ plain _ 1 _ _ refl refl (length-one 1 (c .before .before .before .args .d .now) (c .before .match .keys2) (c .before .before .before .pre .1) (c .before .before .before .pre .2) refl) refl (lit≤ tt))
+unfolding rows theRow masksOf groupSize inGroup freeFrom valueRules ruleOf valueWrong usesByRow accessOf accessAt rangeWrong
+returns-2 c = rw (c .before .match .keys2) (row-bits-decide _ 1 _ 1 (length-one 1 (c .before .before .before .args .d .now) (c .before .match .keys2) (c .before .before .before .pre .1) (c .before .before .before .pre .2) refl) (bits-are 1 _ _ (c .one2 .ensures) refl (lit≤ tt)) (refl, refl, refl, lit≤ tt) (refl, refl, refl, lit≤ tt))
 
 returns-3 : tie.Need-returns-3
 returns-3 c = rw (c .before .match .keys3) (c .start .ensures)
 
 returns-4 : tie.Need-returns-4
-returns-4 c = rw (c .before .match .keys4) (c .registers .ensures)
+returns-4 c = rw (c .before .match .keys4) (c .store .ensures)
 
 returns-5 : tie.Need-returns-5
-returns-5 c = rw (c .before .match .keys5) (c .store .ensures)
+returns-5 c = rw (c .before .match .keys5) (c .store-register .ensures)
 
 returns-6 : tie.Need-returns-6
-returns-6 c = rw (c .before .match .keys6) (c .store-register .ensures)
+returns-6 c = rw (c .before .match .keys6) (c .load-register .ensures)
 
 returns-7 : tie.Need-returns-7
-returns-7 c = rw (c .before .match .keys7) (c .load-register .ensures)
+returns-7 c = rw (c .before .match .keys7) (c .pipe .ensures)
 
 returns-8 : tie.Need-returns-8
-returns-8 c = rw (c .before .match .keys8) (c .pipe .ensures)
+unfolding rows theRow masksOf groupSize inGroup freeFrom valueRules ruleOf valueWrong usesByRow accessOf accessAt rangeWrong
+returns-8 c = rw (c .before .match .keys8) (row-bits-decide _ 8 _ 1 (length-one 8 (c .before .before .before .args .d .now) (c .before .match .keys8) (c .before .before .before .pre .1) (c .before .before .before .pre .2) refl) (bits-are 8 _ _ (c .one3 .ensures) refl (lit≤ tt)) (refl, refl, refl, lit≤ tt) (refl, refl, refl, lit≤ tt))
 
 returns-9 : tie.Need-returns-9
-unfolding rows theRow masksOf valueRules ruleOf usesByRow accessOf
-returns-9 c = rw (c .before .match .keys9) (c .one3 .ensures ∙ plain _ 8 _ _ refl refl (length-one 8 (c .before .before .before .args .d .now) (c .before .match .keys9) (c .before .before .before .pre .1) (c .before .before .before .pre .2) refl) refl (lit≤ tt))
+returns-9 c = rw (c .before .match .keys9) (c .base .ensures)
 
 returns-10 : tie.Need-returns-10
-unfolding rows theRow masksOf valueRules ruleOf usesByRow accessOf
-returns-10 c = rw (c .before .match .keys10) (c .base .ensures ∙ plain _ 9 _ _ refl refl (length-exactly 9 (c .before .before .before .args .d .now) (c .before .match .keys10) (c .before .before .before .pre .1) (c .before .before .before .pre .2) 14 refl) refl (lit≤ tt))
+returns-10 c = rw (c .before .match .keys10) (c .index-buffer .ensures)
 
 returns-11 : tie.Need-returns-11
-returns-11 c = rw (c .before .match .keys11) (c .buffers .ensures)
+returns-11 c = rw (c .before .match .keys11) (c .topology .ensures)
 
 returns-12 : tie.Need-returns-12
-returns-12 c = rw (c .before .match .keys12) (c .elements .ensures)
+unfolding rows theRow masksOf groupSize inGroup freeFrom valueRules ruleOf valueWrong usesByRow accessOf accessAt rangeWrong
+returns-12 c = rw (c .before .match .keys12) (row-bits-decide _ 14 _ 2 (length-exactly 14 (c .before .before .before .args .d .now) (c .before .match .keys12) (c .before .before .before .pre .1) (c .before .before .before .pre .2) 0 refl) (bits-are 14 _ _ (c .two .ensures) refl (lit≤ tt)) (refl, refl, refl, lit≤ tt) (refl, refl, refl, lit≤ tt))
 
 returns-13 : tie.Need-returns-13
-returns-13 c = rw (c .before .match .keys13) (c .index-buffer .ensures)
+unfolding rows theRow masksOf groupSize inGroup freeFrom valueRules ruleOf valueWrong usesByRow accessOf accessAt rangeWrong
+returns-13 c = rw (c .before .match .keys13) (row-bits-decide _ 15 _ 2 (length-exactly 15 (c .before .before .before .args .d .now) (c .before .match .keys13) (c .before .before .before .pre .1) (c .before .before .before .pre .2) 0 refl) (bits-are 15 _ _ (c .two2 .ensures) refl (lit≤ tt)) (refl, refl, refl, lit≤ tt) (refl, refl, refl, lit≤ tt))
 
 returns-14 : tie.Need-returns-14
-returns-14 c = rw (c .before .match .keys14) (c .topology .ensures)
+returns-14 c = rw (c .before .match .keys14) (c .primitive .ensures)
 
 returns-15 : tie.Need-returns-15
-unfolding rows theRow masksOf valueRules ruleOf usesByRow accessOf
-returns-15 c = rw (c .before .match .keys15) (c .two .ensures ∙ plain _ 14 _ _ refl refl (length-exactly 14 (c .before .before .before .args .d .now) (c .before .match .keys15) (c .before .before .before .pre .1) (c .before .before .before .pre .2) 0 refl) refl (lit≤ tt))
-
-returns-16 : tie.Need-returns-16
-unfolding rows theRow masksOf valueRules ruleOf usesByRow accessOf
-returns-16 c = rw (c .before .match .keys16) (c .two2 .ensures ∙ plain _ 15 _ _ refl refl (length-exactly 15 (c .before .before .before .args .d .now) (c .before .match .keys16) (c .before .before .before .pre .1) (c .before .before .before .pre .2) 0 refl) refl (lit≤ tt))
-
-returns-17 : tie.Need-returns-17
-returns-17 c = rw (c .before .match .keys17) (c .primitive .ensures)
-
-returns-18 : tie.Need-returns-18
-returns-18 c = let g = past 17 _ (c .match .rest) in let h = c .before .before .pre .0 in absurd (omega arith)
+returns-15 c = c .grouped .ensures
 
 pub clean-spec : {M : Type 1} → statement M
 clean-spec =
@@ -147,20 +130,18 @@ clean-spec =
     one-requires
     one-requires-2
     start-requires
-    registers-requires
     store-requires
     store-register-requires
     load-register-requires
     pipe-requires
     one-requires-3
     base-requires
-    buffers-requires
-    elements-requires
     index-buffer-requires
     topology-requires
     two-requires
     two-requires-2
     primitive-requires
+    grouped-requires
     returns
     returns-2
     returns-3
@@ -175,7 +156,4 @@ clean-spec =
     returns-12
     returns-13
     returns-14
-    returns-15
-    returns-16
-    returns-17
-    returns-18)
+    returns-15)

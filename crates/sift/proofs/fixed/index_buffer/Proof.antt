@@ -1,18 +1,16 @@
--- `sift::fixed::index_buffer` meets its contract: one law for each stage.
+-- `sift::fixed::index_buffer` meets its contract: each test over the row's dwords, and what the row does not ask for computed away.
 -- Assumes nothing.
 use borrow.Author.Needs.{needs}
-use mathlib.Core.Path.{refl, sym, ap, _∙_}
-use mathlib.Core.Bool.{not}
-use Prim.Native.Nat.{ℕ}
+use mathlib.Core.Path.{refl, sym}
 use native.Mathlib.Omega.{arith}
-use lib.ListN.{getD}
 use lib.Dec.{lit≤}
 use borrow.Author.Tests.{not-true, not-false}
-use Rattle.rules.specs.declared.Allowed.the-variants.{AnyWindow}
-use Rattle.rules.specs.Windows.{fits}
-use Rattle.rules.specs.Commands.{rows, theRow, masksOf}
-use Rattle.sift.proofs.Looking.{joined, bits-are, bits-fail, values-fail, all-stages}
-use Rattle.sift.proofs.Rows.{values-12, ranges-12-none, ranges-12}
+use Rattle.rules.specs.Words.{inGroup}
+use Rattle.rules.specs.Commands.{rows, theRow, groupSize, masksOf}
+use Rattle.rules.specs.Values.{valueRules, ruleOf, valueWrong}
+use Rattle.rules.specs.Addresses.{usesByRow, accessOf, accessAt, rangeWrong}
+use Rattle.sift.specs.Clean.{freeFrom}
+use Rattle.sift.proofs.Looking.{masks-joined, bits-are, range-at, row-bits-fail, row-values-fail, row-ranges-decide}
 use Rattle.sift.proofs.fixed.index_buffer.Statement.{statement}
 use Rattle.sift.proofs.fixed.index_buffer.Tie as tie
 
@@ -23,51 +21,26 @@ one-requires : tie.Need-one-requires
 one-requires c κs = search needs
 
 returns : tie.Need-returns
-unfolding rows theRow masksOf
-returns c = bits-fail _ _ _ (c .before .before .before .before .pre .0) (bits-are _ 12 _ _ refl (lit≤ tt) (joined _ _ _ _ _ (c .before .before .four .ensures) (c .before .one .ensures) refl) ∙ not-true _ (c .if1 .taken))
+unfolding rows theRow groupSize masksOf inGroup freeFrom valueRules ruleOf valueWrong usesByRow accessOf accessAt rangeWrong
+returns c = row-bits-fail _ 12 _ 5 (c .before .before .before .before .pre .0) (bits-are 12 _ _ (masks-joined _ _ _ _ _ (c .before .before .four .ensures) (c .before .one .ensures) refl) refl (lit≤ tt)) (not-true _ (c .if1 .taken))
 
-shared-slice-read-value-wrong : tie.Need-shared-slice-read-value-wrong
-shared-slice-read-value-wrong c = search needs
-
-value-wrong-requires : tie.Need-value-wrong-requires
-value-wrong-requires c κs = search needs
+one-requires-2 : tie.Need-one-requires-2
+unfolding rows theRow groupSize inGroup
+one-requires-2 c κs = (omega (arith, c .before .before .before .before .pre .0), refl, c .before .before .before .before .pre .1)
 
 returns-2 : tie.Need-returns-2
-returns-2 c = values-fail _ _ _ (c .before .before .before .before .before .before .before .pre .0) (values-12 _ _ ∙ ap not (sym (c .before .value-wrong .ensures) ∙ c .if2 .taken))
+unfolding rows theRow groupSize masksOf inGroup freeFrom valueRules ruleOf valueWrong usesByRow accessOf accessAt rangeWrong
+returns-2 c = row-values-fail _ 12 _ 5 (c .before .before .before .before .before .before .pre .0) 1 1 (c .before .one2 .ensures, refl, refl, lit≤ tt) (not-true _ (c .if2 .taken))
 
-shared-slice-read-size : tie.Need-shared-slice-read-size
-shared-slice-read-size c = search needs
+index-buffer-use-requires : tie.Need-index-buffer-use-requires
+index-buffer-use-requires c κs = search needs
+
+held-requires : tie.Need-held-requires
+held-requires c κs = search needs
 
 returns-3 : tie.Need-returns-3
-unfolding rows theRow masksOf
-returns-3 c = all-stages _ _ _ (c .before .before .before .before .before .before .before .before .before .pre .0) (bits-are _ 12 _ _ refl (lit≤ tt) (joined _ _ _ _ _ (c .before .before .before .before .before .before .before .four .ensures) (c .before .before .before .before .before .before .one .ensures) refl) ∙ not-false _ (c .before .before .before .before .before .if1 .left)) (values-12 _ _ ∙ ap not (sym (c .before .before .before .value-wrong .ensures) ∙ c .before .before .if2 .left)) (ranges-12-none _ _ (c .if3 .taken))
-
-address-at-requires : tie.Need-address-at-requires
-address-at-requires c κs = search needs
-
-cast-fits : tie.Need-cast-fits
-cast-fits c = omega (arith, c .before .before .shared-slice-known3 .given 4)
-
-fits-requires : tie.Need-fits-requires
-fits-requires c κs = search needs
-
-returns-4 : tie.Need-returns-4
-unfolding rows theRow masksOf
-returns-4 c = all-stages _ _ _ (c .before .before .before .before .before .before .before .before .before .before .before .pre .0) (bits-are _ 12 _ _ refl (lit≤ tt) (joined _ _ _ _ _ (c .before .before .before .before .before .before .before .before .before .four .ensures) (c .before .before .before .before .before .before .before .before .one .ensures) refl) ∙ not-false _ (c .before .before .before .before .before .before .before .if1 .left)) (values-12 _ _ ∙ ap not (sym (c .before .before .before .before .before .value-wrong .ensures) ∙ c .before .before .before .before .if2 .left)) (ranges-12 _ _ (c .before .before .if3 .left) ∙ ap (λ (a : ℕ). fits (c .before .before .before .before .before .before .before .before .before .before .before .args .w) AnyWindow a (getD (c .before .before .before .before .before .before .before .before .before .before .before .args .d .now) 4 0)) (sym (c .before .address-at .ensures)) ∙ sym (c .fits2 .ensures))
+unfolding rows theRow groupSize masksOf inGroup freeFrom valueRules ruleOf valueWrong usesByRow accessOf accessAt rangeWrong
+returns-3 c = row-ranges-decide _ 12 _ 5 (c .before .before .before .before .before .before .before .before .pre .0) 1 1 2 1 (bits-are 12 _ _ (masks-joined _ _ _ _ _ (c .before .before .before .before .before .before .four .ensures) (c .before .before .before .before .before .one .ensures) refl) refl (lit≤ tt)) (not-false _ (c .before .before .before .before .if1 .left)) (c .before .before .before .one2 .ensures, refl, refl, lit≤ tt) (not-false _ (c .before .before .if2 .left)) (range-at 12 _ _ 2 2 _ refl (sym (c .before .index-buffer-use .ensures)) (c .held .ensures), refl, refl, lit≤ tt)
 
 pub index-buffer-spec : {M : Type 1} → statement M
-index-buffer-spec =
-    tie.close
-    (tie.spec
-    four-requires
-    one-requires
-    returns
-    shared-slice-read-value-wrong
-    value-wrong-requires
-    returns-2
-    shared-slice-read-size
-    returns-3
-    address-at-requires
-    cast-fits
-    fits-requires
-    returns-4)
+index-buffer-spec = tie.close (tie.spec four-requires one-requires returns one-requires-2 returns-2 index-buffer-use-requires held-requires returns-3)

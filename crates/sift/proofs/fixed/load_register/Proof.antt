@@ -1,16 +1,18 @@
--- `sift::fixed::load_register` meets its contract: one law for each stage.
+-- `sift::fixed::load_register` meets its contract: each test over the row's dwords, and what the row does not ask for computed away.
 -- Assumes nothing.
 use borrow.Author.Needs.{needs}
-use mathlib.Core.Path.{refl, sym, ap, _∙_}
-use mathlib.Core.Bool.{not}
-use Prim.Native.Nat.{ℕ}
+use mathlib.Core.Path.{refl}
+use native.Mathlib.Omega.{arith}
 use lib.Dec.{lit≤}
 use borrow.Author.Tests.{not-true, not-false}
+use Rattle.rules.specs.declared.Access.the-variants.{Reaches}
 use Rattle.rules.specs.declared.Allowed.the-variants.{AnyWindow}
-use Rattle.rules.specs.Windows.{fits}
-use Rattle.rules.specs.Commands.{rows, theRow, masksOf}
-use Rattle.sift.proofs.Looking.{bits-are, bits-fail, values-fail, all-stages}
-use Rattle.sift.proofs.Rows.{values-6, ranges-6}
+use Rattle.rules.specs.Words.{inGroup}
+use Rattle.rules.specs.Commands.{rows, theRow, groupSize, masksOf}
+use Rattle.rules.specs.Values.{valueRules, ruleOf, valueWrong}
+use Rattle.rules.specs.Addresses.{usesByRow, accessOf, accessAt, rangeWrong}
+use Rattle.sift.specs.Clean.{freeFrom}
+use Rattle.sift.proofs.Looking.{bits-are, range-at, row-bits-fail, row-values-fail, row-ranges-decide}
 use Rattle.sift.proofs.fixed.load_register.Statement.{statement}
 use Rattle.sift.proofs.fixed.load_register.Tie as tie
 
@@ -18,37 +20,23 @@ four-requires : tie.Need-four-requires
 four-requires c κs = search needs
 
 returns : tie.Need-returns
-unfolding rows theRow masksOf
-returns c = bits-fail _ _ _ (c .before .before .before .pre .0) (bits-are _ 6 _ _ refl (lit≤ tt) (c .before .four .ensures) ∙ not-true _ (c .if1 .taken))
+unfolding rows theRow groupSize masksOf inGroup freeFrom valueRules ruleOf valueWrong usesByRow accessOf accessAt rangeWrong
+returns c = row-bits-fail _ 6 _ 4 (c .before .before .before .pre .0) (bits-are 6 _ _ (c .before .four .ensures) refl (lit≤ tt)) (not-true _ (c .if1 .taken))
 
-shared-slice-read-value-wrong : tie.Need-shared-slice-read-value-wrong
-shared-slice-read-value-wrong c = search needs
-
-value-wrong-requires : tie.Need-value-wrong-requires
-value-wrong-requires c κs = search needs
+one-requires : tie.Need-one-requires
+unfolding rows theRow groupSize inGroup
+one-requires c κs = (omega (arith, c .before .before .before .pre .0), refl, c .before .before .before .pre .1)
 
 returns-2 : tie.Need-returns-2
-returns-2 c = values-fail _ _ _ (c .before .before .before .before .before .before .pre .0) (values-6 _ _ ∙ ap not (sym (c .before .value-wrong .ensures) ∙ c .if2 .taken))
+unfolding rows theRow groupSize masksOf inGroup freeFrom valueRules ruleOf valueWrong usesByRow accessOf accessAt rangeWrong
+returns-2 c = row-values-fail _ 6 _ 4 (c .before .before .before .before .before .pre .0) 1 1 (c .before .one .ensures, refl, refl, lit≤ tt) (not-true _ (c .if2 .taken))
 
-address-at-requires : tie.Need-address-at-requires
-address-at-requires c κs = search needs
-
-fits-requires : tie.Need-fits-requires
-fits-requires c κs = search needs
+held-requires : tie.Need-held-requires
+held-requires c κs = search needs
 
 returns-3 : tie.Need-returns-3
-unfolding rows theRow masksOf
-returns-3 c = all-stages _ _ _ (c .before .before .before .before .before .before .before .before .pre .0) (bits-are _ 6 _ _ refl (lit≤ tt) (c .before .before .before .before .before .before .four .ensures) ∙ not-false _ (c .before .before .before .before .before .if1 .left)) (values-6 _ _ ∙ ap not (sym (c .before .before .before .value-wrong .ensures) ∙ c .before .before .if2 .left)) (ranges-6 _ _ ∙ ap (λ (a : ℕ). fits (c .before .before .before .before .before .before .before .before .args .w) AnyWindow a 4) (sym (c .before .address-at .ensures)) ∙ sym (c .fits2 .ensures))
+unfolding rows theRow groupSize masksOf inGroup freeFrom valueRules ruleOf valueWrong usesByRow accessOf accessAt rangeWrong
+returns-3 c = row-ranges-decide _ 6 _ 4 (c .before .before .before .before .before .before .pre .0) 1 1 2 1 (bits-are 6 _ _ (c .before .before .before .before .four .ensures) refl (lit≤ tt)) (not-false _ (c .before .before .before .if1 .left)) (c .before .before .one .ensures, refl, refl, lit≤ tt) (not-false _ (c .before .if2 .left)) (range-at 6 _ _ 2 2 (Reaches 4 AnyWindow) refl refl (c .held .ensures), refl, refl, lit≤ tt)
 
 pub load-register-spec : {M : Type 1} → statement M
-load-register-spec =
-    tie.close
-    (tie.spec
-    four-requires
-    returns
-    shared-slice-read-value-wrong
-    value-wrong-requires
-    returns-2
-    address-at-requires
-    fits-requires
-    returns-3)
+load-register-spec = tie.close (tie.spec four-requires returns one-requires returns-2 held-requires returns-3)

@@ -1,15 +1,16 @@
--- `sift::fixed::pipe` meets its contract: one law for each stage.
+-- `sift::fixed::pipe` meets its contract: each test over the row's dwords, and what the row does not ask for computed away.
 -- Assumes nothing.
 use borrow.Author.Needs.{needs}
-use mathlib.Core.Path.{refl, sym, ap, _∙_}
-use Prim.Native.Nat.{ℕ}
+use mathlib.Core.Path.{refl, sym}
+use native.Mathlib.Omega.{arith}
 use lib.Dec.{lit≤}
 use borrow.Author.Tests.{not-true, not-false}
-use Rattle.rules.specs.declared.Allowed.the-variants.{ScratchOnly}
-use Rattle.rules.specs.Windows.{fits}
-use Rattle.rules.specs.Commands.{rows, theRow, masksOf}
-use Rattle.sift.proofs.Looking.{joined, bits-are, bits-fail, values-fail, all-stages}
-use Rattle.sift.proofs.Rows.{ranges-7-none, ranges-7}
+use Rattle.rules.specs.Words.{inGroup}
+use Rattle.rules.specs.Commands.{rows, theRow, groupSize, masksOf}
+use Rattle.rules.specs.Values.{valueRules, ruleOf, valueWrong}
+use Rattle.rules.specs.Addresses.{usesByRow, accessOf, accessAt, rangeWrong}
+use Rattle.sift.specs.Clean.{freeFrom}
+use Rattle.sift.proofs.Looking.{masks-joined, bits-are, range-at, joined, row-bits-fail, row-values-fail, row-ranges-decide}
 use Rattle.sift.proofs.fixed.pipe.Statement.{statement}
 use Rattle.sift.proofs.fixed.pipe.Tie as tie
 
@@ -20,43 +21,34 @@ two-requires : tie.Need-two-requires
 two-requires c κs = search needs
 
 returns : tie.Need-returns
-unfolding rows theRow masksOf
-returns c = bits-fail _ _ _ (c .before .before .before .before .pre .0) (bits-are _ 7 _ _ refl (lit≤ tt) (joined _ _ _ _ _ (c .before .before .four .ensures) (c .before .two .ensures) refl) ∙ not-true _ (c .if1 .taken))
+unfolding rows theRow groupSize masksOf inGroup freeFrom valueRules ruleOf valueWrong usesByRow accessOf accessAt rangeWrong
+returns c = row-bits-fail _ 7 _ 6 (c .before .before .before .before .pre .0) (bits-are 7 _ _ (masks-joined _ _ _ _ _ (c .before .before .four .ensures) (c .before .two .ensures) refl) refl (lit≤ tt)) (not-true _ (c .if1 .taken))
 
-pipe-values-requires : tie.Need-pipe-values-requires
-pipe-values-requires c κs = search needs
+two-requires-2 : tie.Need-two-requires-2
+unfolding rows theRow groupSize inGroup
+two-requires-2 c κs = (lit≤ tt, omega (arith, c .before .before .before .before .pre .0), refl, refl, c .before .before .before .before .pre .1)
+
+two-requires-3 : tie.Need-two-requires-3
+unfolding rows theRow groupSize inGroup
+two-requires-3 c κs = (lit≤ tt, omega (arith, c .before .before .before .before .before .pre .0), refl, refl, c .before .before .before .before .before .pre .1)
+
+two-requires-4 : tie.Need-two-requires-4
+unfolding rows theRow groupSize inGroup
+two-requires-4 c κs = (lit≤ tt, omega (arith, c .before .before .before .before .before .before .pre .0), refl, refl, c .before .before .before .before .before .before .pre .1)
 
 returns-2 : tie.Need-returns-2
-returns-2 c = values-fail _ _ _ (c .before .before .before .before .before .before .pre .0) (sym (c .before .pipe-values .ensures) ∙ not-true _ (c .if2 .taken))
+unfolding rows theRow groupSize masksOf inGroup freeFrom valueRules ruleOf valueWrong usesByRow accessOf accessAt rangeWrong
+returns-2 c = row-values-fail _ 7 _ 6 (c .before .before .before .before .before .before .before .before .pre .0) 0 6 (joined (valueWrong 7 (c .before .before .before .before .before .before .before .before .args .d .now)) 0 2 4 (c .before .before .before .two2 .ensures) (joined (valueWrong 7 (c .before .before .before .before .before .before .before .before .args .d .now)) 2 2 2 (c .before .before .two3 .ensures) (c .before .two4 .ensures)), refl, refl, lit≤ tt) (not-true _ (c .if2 .taken))
 
-shared-slice-read-if3 : tie.Need-shared-slice-read-if3
-shared-slice-read-if3 c = search needs
+pipe-use-requires : tie.Need-pipe-use-requires
+pipe-use-requires c κs = search needs
+
+held-requires : tie.Need-held-requires
+held-requires c κs = search needs
 
 returns-3 : tie.Need-returns-3
-unfolding rows theRow masksOf
-returns-3 c = all-stages _ _ _ (c .before .before .before .before .before .before .before .before .pre .0) (bits-are _ 7 _ _ refl (lit≤ tt) (joined _ _ _ _ _ (c .before .before .before .before .before .before .four .ensures) (c .before .before .before .before .before .two .ensures) refl) ∙ not-false _ (c .before .before .before .before .if1 .left)) (sym (c .before .before .before .pipe-values .ensures) ∙ not-false _ (c .before .before .if2 .left)) (ranges-7-none _ _ (c .if3 .taken))
-
-address-at-requires : tie.Need-address-at-requires
-address-at-requires c κs = search needs
-
-fits-requires : tie.Need-fits-requires
-fits-requires c κs = search needs
-
-returns-4 : tie.Need-returns-4
-unfolding rows theRow masksOf
-returns-4 c = all-stages _ _ _ (c .before .before .before .before .before .before .before .before .before .before .pre .0) (bits-are _ 7 _ _ refl (lit≤ tt) (joined _ _ _ _ _ (c .before .before .before .before .before .before .before .before .four .ensures) (c .before .before .before .before .before .before .before .two .ensures) refl) ∙ not-false _ (c .before .before .before .before .before .before .if1 .left)) (sym (c .before .before .before .before .before .pipe-values .ensures) ∙ not-false _ (c .before .before .before .before .if2 .left)) (ranges-7 _ _ (c .before .before .if3 .left) ∙ ap (λ (a : ℕ). fits (c .before .before .before .before .before .before .before .before .before .before .args .w) ScratchOnly a 8) (sym (c .before .address-at .ensures)) ∙ sym (c .fits2 .ensures))
+unfolding rows theRow groupSize masksOf inGroup freeFrom valueRules ruleOf valueWrong usesByRow accessOf accessAt rangeWrong
+returns-3 c = row-ranges-decide _ 7 _ 6 (c .before .before .before .before .before .before .before .before .before .before .pre .0) 0 6 2 1 (bits-are 7 _ _ (masks-joined _ _ _ _ _ (c .before .before .before .before .before .before .before .before .four .ensures) (c .before .before .before .before .before .before .before .two .ensures) refl) refl (lit≤ tt)) (not-false _ (c .before .before .before .before .before .before .if1 .left)) (joined (valueWrong 7 (c .before .before .before .before .before .before .before .before .before .before .args .d .now)) 0 2 4 (c .before .before .before .before .before .two2 .ensures) (joined (valueWrong 7 (c .before .before .before .before .before .before .before .before .before .before .args .d .now)) 2 2 2 (c .before .before .before .before .two3 .ensures) (c .before .before .before .two4 .ensures)), refl, refl, lit≤ tt) (not-false _ (c .before .before .if2 .left)) (range-at 7 _ _ 2 2 _ refl (sym (c .before .pipe-use .ensures)) (c .held .ensures), refl, refl, lit≤ tt)
 
 pub pipe-spec : {M : Type 1} → statement M
-pipe-spec =
-    tie.close
-    (tie.spec
-    four-requires
-    two-requires
-    returns
-    pipe-values-requires
-    returns-2
-    shared-slice-read-if3
-    returns-3
-    address-at-requires
-    fits-requires
-    returns-4)
+pipe-spec = tie.close (tie.spec four-requires two-requires returns two-requires-2 two-requires-3 two-requires-4 returns-2 pipe-use-requires held-requires returns-3)

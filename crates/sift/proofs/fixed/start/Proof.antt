@@ -1,16 +1,18 @@
--- `sift::fixed::start` meets its contract: one law for each stage.
+-- `sift::fixed::start` meets its contract: each test over the row's dwords, and what the row does not ask for computed away.
 -- Assumes nothing.
 use borrow.Author.Needs.{needs}
-use mathlib.Core.Path.{refl, sym, ap, _∙_}
-use mathlib.Core.Bool.{not}
-use Prim.Native.Nat.{ℕ}
+use mathlib.Core.Path.{refl}
+use native.Mathlib.Omega.{arith}
 use lib.Dec.{lit≤}
 use borrow.Author.Tests.{not-true, not-false}
+use Rattle.rules.specs.declared.Access.the-variants.{Reaches}
 use Rattle.rules.specs.declared.Allowed.the-variants.{BatchOnly}
-use Rattle.rules.specs.Windows.{fits}
-use Rattle.rules.specs.Commands.{rows, theRow, masksOf}
-use Rattle.sift.proofs.Looking.{joined, bits-are, bits-fail, values-fail, all-stages}
-use Rattle.sift.proofs.Rows.{values-2, ranges-2}
+use Rattle.rules.specs.Words.{inGroup}
+use Rattle.rules.specs.Commands.{rows, theRow, groupSize, masksOf}
+use Rattle.rules.specs.Values.{valueRules, ruleOf, valueWrong}
+use Rattle.rules.specs.Addresses.{usesByRow, accessOf, accessAt, rangeWrong}
+use Rattle.sift.specs.Clean.{freeFrom}
+use Rattle.sift.proofs.Looking.{masks-joined, bits-are, range-at, row-bits-fail, row-values-fail, row-ranges-decide}
 use Rattle.sift.proofs.fixed.start.Statement.{statement}
 use Rattle.sift.proofs.fixed.start.Tie as tie
 
@@ -21,38 +23,23 @@ one-requires : tie.Need-one-requires
 one-requires c κs = search needs
 
 returns : tie.Need-returns
-unfolding rows theRow masksOf
-returns c = bits-fail _ _ _ (c .before .before .before .before .pre .0) (bits-are _ 2 _ _ refl (lit≤ tt) (joined _ _ _ _ _ (c .before .before .two .ensures) (c .before .one .ensures) refl) ∙ not-true _ (c .if1 .taken))
+unfolding rows theRow groupSize masksOf inGroup freeFrom valueRules ruleOf valueWrong usesByRow accessOf accessAt rangeWrong
+returns c = row-bits-fail _ 2 _ 3 (c .before .before .before .before .pre .0) (bits-are 2 _ _ (masks-joined _ _ _ _ _ (c .before .before .two .ensures) (c .before .one .ensures) refl) refl (lit≤ tt)) (not-true _ (c .if1 .taken))
 
-shared-slice-read-value-wrong : tie.Need-shared-slice-read-value-wrong
-shared-slice-read-value-wrong c = search needs
-
-value-wrong-requires : tie.Need-value-wrong-requires
-value-wrong-requires c κs = search needs
+one-requires-2 : tie.Need-one-requires-2
+unfolding rows theRow groupSize inGroup
+one-requires-2 c κs = (omega (arith, c .before .before .before .before .pre .0), refl, c .before .before .before .before .pre .1)
 
 returns-2 : tie.Need-returns-2
-returns-2 c = values-fail _ _ _ (c .before .before .before .before .before .before .before .pre .0) (values-2 _ _ ∙ ap not (sym (c .before .value-wrong .ensures) ∙ c .if2 .taken))
+unfolding rows theRow groupSize masksOf inGroup freeFrom valueRules ruleOf valueWrong usesByRow accessOf accessAt rangeWrong
+returns-2 c = row-values-fail _ 2 _ 3 (c .before .before .before .before .before .before .pre .0) 0 1 (c .before .one2 .ensures, refl, refl, lit≤ tt) (not-true _ (c .if2 .taken))
 
-address-at-requires : tie.Need-address-at-requires
-address-at-requires c κs = search needs
-
-fits-requires : tie.Need-fits-requires
-fits-requires c κs = search needs
+held-requires : tie.Need-held-requires
+held-requires c κs = search needs
 
 returns-3 : tie.Need-returns-3
-unfolding rows theRow masksOf
-returns-3 c = all-stages _ _ _ (c .before .before .before .before .before .before .before .before .before .pre .0) (bits-are _ 2 _ _ refl (lit≤ tt) (joined _ _ _ _ _ (c .before .before .before .before .before .before .before .two .ensures) (c .before .before .before .before .before .before .one .ensures) refl) ∙ not-false _ (c .before .before .before .before .before .if1 .left)) (values-2 _ _ ∙ ap not (sym (c .before .before .before .value-wrong .ensures) ∙ c .before .before .if2 .left)) (ranges-2 _ _ ∙ ap (λ (a : ℕ). fits (c .before .before .before .before .before .before .before .before .before .args .w) BatchOnly a 4) (sym (c .before .address-at .ensures)) ∙ sym (c .fits2 .ensures))
+unfolding rows theRow groupSize masksOf inGroup freeFrom valueRules ruleOf valueWrong usesByRow accessOf accessAt rangeWrong
+returns-3 c = row-ranges-decide _ 2 _ 3 (c .before .before .before .before .before .before .before .pre .0) 0 1 1 1 (bits-are 2 _ _ (masks-joined _ _ _ _ _ (c .before .before .before .before .before .two .ensures) (c .before .before .before .before .one .ensures) refl) refl (lit≤ tt)) (not-false _ (c .before .before .before .if1 .left)) (c .before .before .one2 .ensures, refl, refl, lit≤ tt) (not-false _ (c .before .if2 .left)) (range-at 2 _ _ 1 1 (Reaches 4 BatchOnly) refl refl (c .held .ensures), refl, refl, lit≤ tt)
 
 pub start-spec : {M : Type 1} → statement M
-start-spec =
-    tie.close
-    (tie.spec
-    two-requires
-    one-requires
-    returns
-    shared-slice-read-value-wrong
-    value-wrong-requires
-    returns-2
-    address-at-requires
-    fits-requires
-    returns-3)
+start-spec = tie.close (tie.spec two-requires one-requires returns one-requires-2 returns-2 held-requires returns-3)

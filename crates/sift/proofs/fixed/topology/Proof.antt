@@ -1,14 +1,16 @@
--- `sift::fixed::topology` meets its contract: one law for each stage.
+-- `sift::fixed::topology` meets its contract: each test over the row's dwords, and what the row does not ask for computed away.
 -- Assumes nothing.
 use borrow.Author.Needs.{needs}
-use mathlib.Core.Path.{refl, sym, ap, _∙_}
-use mathlib.Core.Bool.{not}
+use mathlib.Core.Path.{refl}
+use native.Mathlib.Omega.{arith}
 use lib.Dec.{lit≤}
 use borrow.Author.Tests.{not-true, not-false}
-use Rattle.rules.specs.Commands.{rows, theRow, masksOf}
-use Rattle.rules.specs.Addresses.{usesByRow, accessOf}
-use Rattle.sift.proofs.Looking.{bits-are, no-ranges, bits-fail, values-decide}
-use Rattle.sift.proofs.Rows.{values-13}
+use Rattle.rules.specs.Words.{inGroup}
+use Rattle.rules.specs.Commands.{rows, theRow, groupSize, masksOf}
+use Rattle.rules.specs.Values.{valueRules, ruleOf, valueWrong}
+use Rattle.rules.specs.Addresses.{usesByRow, accessOf, accessAt, rangeWrong}
+use Rattle.sift.specs.Clean.{freeFrom}
+use Rattle.sift.proofs.Looking.{bits-are, row-bits-fail, row-values-decide}
 use Rattle.sift.proofs.fixed.topology.Statement.{statement}
 use Rattle.sift.proofs.fixed.topology.Tie as tie
 
@@ -16,20 +18,16 @@ two-requires : tie.Need-two-requires
 two-requires c κs = search needs
 
 returns : tie.Need-returns
-unfolding rows theRow masksOf
-returns c = bits-fail _ _ _ (c .before .before .before .pre .0) (bits-are _ 13 _ _ refl (lit≤ tt) (c .before .two .ensures) ∙ not-true _ (c .if1 .taken))
+unfolding rows theRow groupSize masksOf inGroup freeFrom valueRules ruleOf valueWrong usesByRow accessOf accessAt rangeWrong
+returns c = row-bits-fail _ 13 _ 2 (c .before .before .before .pre .0) (bits-are 13 _ _ (c .before .two .ensures) refl (lit≤ tt)) (not-true _ (c .if1 .taken))
 
-shared-slice-read-value-wrong : tie.Need-shared-slice-read-value-wrong
-shared-slice-read-value-wrong c = search needs
-
-value-wrong-requires : tie.Need-value-wrong-requires
-value-wrong-requires c κs = search needs
+one-requires : tie.Need-one-requires
+unfolding rows theRow groupSize inGroup
+one-requires c κs = (omega (arith, c .before .before .before .pre .0), refl, c .before .before .before .pre .1)
 
 returns-2 : tie.Need-returns-2
-unfolding rows theRow masksOf usesByRow accessOf
-returns-2 c = values-decide _ _ _ (c .before .before .before .before .before .pre .0) (bits-are _ 13 _ _ refl (lit≤ tt) (c .before .before .before .two .ensures) ∙ not-false _ (c .before .before .if1 .left)) (values-13 _ _ ∙ ap not (sym (c .value-wrong .ensures))) (no-ranges _ 13 _ 0 2 refl)
+unfolding rows theRow groupSize masksOf inGroup freeFrom valueRules ruleOf valueWrong usesByRow accessOf accessAt rangeWrong
+returns-2 c = row-values-decide _ 13 _ 2 (c .before .before .before .before .pre .0) 1 1 (bits-are 13 _ _ (c .before .before .two .ensures) refl (lit≤ tt)) (not-false _ (c .before .if1 .left)) (c .one .ensures, refl, refl, lit≤ tt) (refl, refl, refl, lit≤ tt)
 
 pub topology-spec : {M : Type 1} → statement M
-topology-spec =
-    tie.close
-    (tie.spec two-requires returns shared-slice-read-value-wrong value-wrong-requires returns-2)
+topology-spec = tie.close (tie.spec two-requires returns one-requires returns-2)
