@@ -11,6 +11,7 @@ use mathlib.Core.Logic.{⊎-elim}
 use lib.ListN.{length, getD, drop, set, length-append, length-drop, length-set}
 use lib.Dec.{eqb}
 use lib.Seq.{drop-cons, set-at}
+use borrow.Author.Tests.{eqb-true, eqb-false}
 use borrow.Rule.Slice.PartMut.{putMid, midOf, mid-len, set-mid-at}
 use Rattle.rules.specs.declared.Windows.{Windows}
 use Rattle.rules.specs.declared.Answer.{Answer}
@@ -39,7 +40,7 @@ use Rattle.rules.proofs.Walking.{walk-sound, walk-unsound}
 use Rattle.rules.proofs.Places.{refusal-place}
 use Rattle.rules.proofs.Moving.{Within, Way, ends, returns, jumps, calls, goes-on, taken-way, same-cursor, ends-nowhere, stays-within, starts-within}
 use Rattle.step.specs.Parts.{captured, Fitted, SmallBase}
-use Rattle.walk.specs.Lent.{Ran}
+use Rattle.walk.specs.Lent.{stopFor, Ran}
 
 -- the commands done stand in the record buffer, the rest of it is as it came, and the walk is these commands and then the run r
 pub record SoFar (base : Base) (c : Capture) (old new : List ℕ) (n : ℕ) (r : Run) : Type 0 where
@@ -166,6 +167,26 @@ module _ {base : Base} {c : Capture} {old new : List ℕ} {n : ℕ} {s : Cursor}
     same = length-set new n _ ∙ g .same;
     so-far = wrote (rw (left 65536 n h, left (length old) n z, e) at (g .so-far)) z;
   }
+
+-- a command that is not taken stops the run: for the budget, where that is spent, and else for its own fault
+module _ {base : Base} {c : Capture} {old new : List ℕ} {n : ℕ} {s : Cursor} (g : Going base c old new n s) where
+  pub stops : (f : Fault) → (n < 65536 → Ran base c old (answerWith (Fails f) n) new) → Ran base c old (answerWith (Fails (stopFor f (s .at) n)) n) new
+  stops f h = by (eqb n 65536) refl
+    where
+      by : (t : Bool) → eqb n 65536 ≡ t → Ran base c old (answerWith (Fails (cond t (fault BudgetSpent inBatch (s .at)) f)) n) new
+      by true e = out-of-budget g (omega (arith, eqb-true n 65536 e))
+      by false e = h (let m = eqb-false n 65536 e in omega (arith, g .budgeted))
+
+-- the room for records is what the buffer has, or the budget
+module _ {base : Base} {c : Capture} {old new : List ℕ} {n : ℕ} {s : Cursor} (g : Going base c old new n s) {room : ℕ}
+    (m : (room ≤ length old) × (room ≤ 65536) × (room < 65536 → room ≡ length old)) where
+  pub none-left-there : n ≡ room → n < 65536 → length new ≤ n
+  none-left-there e h = let z = m .2 (omega arith) in omega (arith, g .same)
+
+  pub some-left : n ≤ room → (n ≡ room → ⊥) → (n < 65536) × (n < length new) × (n < room)
+  some-left l e =
+      let z : n < room = omega arith in
+      (omega (arith, m .1), omega (arith, m .0, g .same), z)
 
 -- a write to the first word of the tail from n on is a write at n
 pub tail-written : (n v : ℕ) (l : List ℕ) → n < length l → putMid n (length l - n) l (set (midOf n (length l - n) l) 0 v) ≡ set l n v
