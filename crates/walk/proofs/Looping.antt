@@ -17,7 +17,8 @@ use Rattle.rules.specs.declared.Windows.{Windows}
 use Rattle.rules.specs.declared.Answer.{Answer}
 use Rattle.rules.specs.declared.Base.{Base}
 use Rattle.rules.specs.declared.Base.the-variants.{Unset, Set}
-use Rattle.rules.specs.declared.Level.the-variants.{First}
+use Rattle.rules.specs.declared.Level.{Level}
+use Rattle.rules.specs.declared.Level.the-variants.{First, Second}
 use Rattle.rules.specs.declared.Cursor.{Cursor}
 use Rattle.rules.specs.declared.Command.{Command}
 use Rattle.rules.specs.declared.After.{After}
@@ -30,9 +31,10 @@ use Rattle.rules.specs.declared.Reason.the-variants.{BudgetSpent, RecordsFull}
 use Rattle.rules.specs.Words.{bit}
 use Rattle.rules.specs.Refusals.{inBatch, fault}
 use Rattle.rules.specs.Windows.{Capture, windowsOf, lengthsOf, windowFault}
-use Rattle.rules.specs.Step.{budget, baseRow, newBase, baseAfter, commandAt, stepOf}
+use Rattle.rules.specs.Step.{budget, baseRow, newBase, baseAfter, levelNumber, commandAt, stepOf}
 use Rattle.rules.specs.Walk.{Run, ended, then, trace, traceFrom, cut, start, commandsOf, endOf, answerWith, answerOf}
 use Rattle.rules.specs.Records.{recordOf, wordsOf, roomOf, writtenOf, Checked}
+use Rattle.rules.proofs.Searching.{never-both}
 use Rattle.rules.proofs.Unique.{words-counted}
 use Rattle.rules.proofs.Running.{follow, commands-follow, end-follows}
 use Rattle.rules.proofs.Stepping.{took}
@@ -40,7 +42,7 @@ use Rattle.rules.proofs.Walking.{walk-sound, walk-unsound}
 use Rattle.rules.proofs.Places.{refusal-place}
 use Rattle.rules.proofs.Moving.{Within, Way, ends, returns, jumps, calls, goes-on, taken-way, same-cursor, ends-nowhere, stays-within, starts-within}
 use Rattle.step.specs.Parts.{captured, Fitted, SmallBase}
-use Rattle.walk.specs.Lent.{stopFor, Ran}
+use Rattle.walk.specs.Lent.{keptAt, stopFor, Ran}
 
 -- the commands done stand in the record buffer, the rest of it is as it came, and the walk is these commands and then the run r
 pub record SoFar (base : Base) (c : Capture) (old new : List ℕ) (n : ℕ) (r : Run) : Type 0 where
@@ -233,3 +235,12 @@ no-base = record { small = λ b e. absurd (let z : _≡_ {A = ℕ} 0 1 = cc in o
 pub judged : (c : Capture) {w : Windows} {v : Verdict} → w ≡ windowsOf c → v ≡ windowFault (record { batch = length (c .batch); state = length (c .state); windows = w })
     → windowFault (lengthsOf c) ≡ v
 judged c e p = ap (λ (w : Windows). windowFault (record { batch = length (c .batch); state = length (c .state); windows = w })) (sym e) ∙ sym p
+
+-- a level, put together from whether it is the second, and what it keeps
+pub same-second : (l : Level) → eqb (levelNumber l) 1 ≡ true → Second (keptAt l) ≡ l
+same-second First e = absurd (never-both e refl)
+same-second (Second back) e = refl
+
+pub same-first : (l : Level) → eqb (levelNumber l) 1 ≡ false → First ≡ l
+same-first First e = refl
+same-first (Second back) e = absurd (never-both refl e)

@@ -7,6 +7,8 @@ use lib.ListN.{length}
 use lib.Dec.{eqb}
 use Rattle.rules.specs.declared.Base.{Base}
 use Rattle.rules.specs.declared.Answer.{Answer}
+use Rattle.rules.specs.declared.Level.{Level}
+use Rattle.rules.specs.declared.Level.the-variants.{First, Second}
 use Rattle.rules.specs.declared.Fault.{Fault}
 use Rattle.rules.specs.declared.Reason.the-variants.{BudgetSpent}
 use Rattle.rules.specs.Refusals.{inBatch, fault}
@@ -19,6 +21,11 @@ use Rattle.rules.specs.Records.{roomOf, writtenOf}
 abbrev pub captureOf : List ℕ → ℕ → List ℕ → ℕ → ℕ → ℕ → Capture
 captureOf batch batchAt state stateAt scratchAt scratchBytes =
     record { batch = batch; batchAt = batchAt; state = state; stateAt = stateAt; scratchAt = scratchAt; scratchBytes = scratchBytes }
+
+-- the position that a level keeps, or 0 where it keeps none
+abbrev pub keptAt : Level → ℕ
+keptAt First = 0
+keptAt (Second back) = back
 
 -- why the run stops at a command that is not taken for this fault: behind the last command of the budget it is the budget's
 abbrev pub stopFor : Fault → ℕ → ℕ → Fault

@@ -2,15 +2,16 @@
 ghost use mathlib.Core.Path.{_≡_};
 ghost use Prim.Native.Nat.{_^_, _≤_, _<_};
 ghost use lib.ListN.{length};
+ghost use lib.Dec.{eqb};
 ghost use Rattle.rules.specs.declared.Reason.the-variants.{BudgetSpent, RecordsFull};
 ghost use Rattle.rules.specs.declared.Verdict.the-variants.{Fails};
 ghost use Rattle.rules.specs.Refusals.{fault, inBatch};
 ghost use Rattle.rules.specs.Windows.{windowsOf};
-ghost use Rattle.rules.specs.Step.{budget};
+ghost use Rattle.rules.specs.Step.{budget, levelNumber};
 ghost use Rattle.rules.specs.Walk.{answerWith};
 ghost use Rattle.rules.specs.Records.{Checked};
 ghost use Rattle.step.specs.Parts.{captured, Fitted, SmallBase};
-ghost use Rattle.walk.specs.Lent.{captureOf, stopFor, Ran};
+ghost use Rattle.walk.specs.Lent.{captureOf, keptAt, stopFor, Ran};
 use answers::acceptance;
 use answers::refusal;
 use records::record_of;
@@ -95,12 +96,33 @@ fn stopped(f: Fault, at: usize, n: usize) -> Answer
     refusal(f, n)
 }
 
+fn is_second(level: Level) -> bool
+    ensures { λ r. ⌜ r ≡ eqb (levelNumber level) 1 ⌝ }
+{
+    match level {
+        Level::First => false,
+        Level::Second(_) => true,
+    }
+}
+
+// The position that is kept, or 0 where none is.
+fn kept(level: Level) -> usize
+    ensures { λ r. ⌜ r ≡ keptAt level ⌝ }
+{
+    match level {
+        Level::First => 0,
+        Level::Second(back) => back,
+    }
+}
+
+// By a test, so that the compiler knows the tag for a 0 or a 1, and it can go into a record as it is.
 fn fresh_level(level: Level) -> Level
     ensures { λ r. ⌜ r ≡ level ⌝ }
 {
-    match level {
-        Level::First => Level::First,
-        Level::Second(back) => Level::Second(back),
+    if is_second(level) {
+        Level::Second(kept(level))
+    } else {
+        Level::First
     }
 }
 
