@@ -6,9 +6,9 @@ use mathlib.Core.Path.{_≡_, refl, sym, ap, _∙_}
 use mathlib.Core.Bool.{Bool, true, false, cond, _&&_, _||_}
 use mathlib.Core.List.{List, [], _∷_}
 use mathlib.Core.Logic.{⊎-elim}
-use lib.ListN.{length, getD, List·getD-eq-default}
+use lib.ListN.{length, getD, drop, List·getD-eq-default}
 use lib.Dec.{eqb, leb, ltb, lit<, lit≤}
-use borrow.Author.Tests.{eq-eqb, ne-eqb, le-leb, lt-leb, le-ltb}
+use borrow.Author.Tests.{eq-eqb, ne-eqb, ltb-true, ltb-false, le-leb, lt-leb, le-ltb}
 use Rattle.rules.specs.Words.{bit, field, cleared, some}
 use Rattle.rules.specs.Commands.{Length, one, exactly, byBit, groups, Row, rows, theRow, keyOf, rowFrom, rowOf, dwordCount, lengthOf, groupSize, fieldRight, lengthRight}
 use Rattle.rows.specs.Groups.{groupsRight}
@@ -94,9 +94,6 @@ same-3 key k e = omega arith
 too-low : (key k : ℕ) → key < 64 → 2 ^ 29 ≤ k → key * 2 ^ 23 ≡ k → ⊥
 too-low key k h l e = omega arith
 
-too-high : (key k : ℕ) → 8192 ≤ key → k < 2 ^ 29 → key * 2 ^ 16 ≡ k → ⊥
-too-high key k h l e = omega arith
-
 pub unknown-0 : (key : ℕ) → key < 64
     → (key ≡ 0x0 → ⊥)
     → (key ≡ 0xA → ⊥)
@@ -129,7 +126,7 @@ unknown-0 key h n0 n1 n2 n3 n4 n5 n6 =
       ne-eqb (key * 2 ^ 23) 0x7B000000 (too-low key 0x7B000000 h (lit≤ tt)),
     ))
 
-pub unknown-3 : (key : ℕ) → 8192 ≤ key
+pub unknown-3 : (key : ℕ)
     → (key ≡ 0x7A00 → ⊥)
     → (key ≡ 0x6904 → ⊥)
     → (key ≡ 0x6101 → ⊥)
@@ -140,18 +137,12 @@ pub unknown-3 : (key : ℕ) → 8192 ≤ key
     → (key ≡ 0x7823 → ⊥)
     → (key ≡ 0x780E → ⊥)
     → (key ≡ 0x7B00 → ⊥)
-    → 17 ≡ rowFrom (key * 2 ^ 16) rows
+    → 17 ≡ 7 + rowFrom (key * 2 ^ 16) (drop 7 rows)
 unfolding some rows
-unknown-3 key h n7 n8 n9 n10 n11 n12 n13 n14 n15 n16 =
-    unkeyed (key * 2 ^ 16) rows
+unknown-3 key n7 n8 n9 n10 n11 n12 n13 n14 n15 n16 =
+    ap (λ (n : ℕ). 7 + n)
+    (unkeyed (key * 2 ^ 16) (drop 7 rows)
     (simp (
-      ne-eqb (key * 2 ^ 16) 0x00000000 (too-high key 0x00000000 h (lit< tt)),
-      ne-eqb (key * 2 ^ 16) 0x05000000 (too-high key 0x05000000 h (lit< tt)),
-      ne-eqb (key * 2 ^ 16) 0x18800000 (too-high key 0x18800000 h (lit< tt)),
-      ne-eqb (key * 2 ^ 16) 0x11000000 (too-high key 0x11000000 h (lit< tt)),
-      ne-eqb (key * 2 ^ 16) 0x10000000 (too-high key 0x10000000 h (lit< tt)),
-      ne-eqb (key * 2 ^ 16) 0x12000000 (too-high key 0x12000000 h (lit< tt)),
-      ne-eqb (key * 2 ^ 16) 0x14800000 (too-high key 0x14800000 h (lit< tt)),
       ne-eqb (key * 2 ^ 16) 0x7A000000 (λ e. n7 (same-3 key 0x7A00 e)),
       ne-eqb (key * 2 ^ 16) 0x69040000 (λ e. n8 (same-3 key 0x6904 e)),
       ne-eqb (key * 2 ^ 16) 0x61010000 (λ e. n9 (same-3 key 0x6101 e)),
@@ -162,16 +153,72 @@ unknown-3 key h n7 n8 n9 n10 n11 n12 n13 n14 n15 n16 =
       ne-eqb (key * 2 ^ 16) 0x78230000 (λ e. n14 (same-3 key 0x7823 e)),
       ne-eqb (key * 2 ^ 16) 0x780E0000 (λ e. n15 (same-3 key 0x780E e)),
       ne-eqb (key * 2 ^ 16) 0x7B000000 (λ e. n16 (same-3 key 0x7B00 e)),
-    ))
+    )))
 
--- the two keys, as the table's key of a header
-pub key-0 : (header : ℕ) → header < 2 ^ 29 → rowFrom (header / 2 ^ 23 * 2 ^ 23) rows ≡ rowOf header
+-- a header with a key of type 0
+pub key-0 : (header k : ℕ) → header / 2 ^ 23 ≡ k → k < 64 → rowFrom (k * 2 ^ 23) rows ≡ rowOf header
 unfolding rowOf keyOf
-key-0 header h = let t : field header 31 29 ≡ 0 = omega arith in rw (eq-eqb _ 0 t)
+key-0 header k e h =
+    let t : field header 31 29 ≡ 0 = omega arith in
+    rw (eq-eqb _ 0 t, e)
 
-pub key-3 : (header : ℕ) → header < 2 ^ 32 → 2 ^ 29 ≤ header → rowFrom (header / 2 ^ 16 * 2 ^ 16) rows ≡ rowOf header
+-- a key below 2^29 is none of type 3, and one from there on none of type 0
+below-3 : (key : ℕ) → key < 2 ^ 29 → 17 ≡ 7 + rowFrom key (drop 7 rows)
+unfolding some rows
+below-3 key h =
+    ap (λ (n : ℕ). 7 + n)
+    (unkeyed key (drop 7 rows)
+    (simp (
+      ne-eqb key 0x7A000000 (λ e. omega arith),
+      ne-eqb key 0x69040000 (λ e. omega arith),
+      ne-eqb key 0x61010000 (λ e. omega arith),
+      ne-eqb key 0x78080000 (λ e. omega arith),
+      ne-eqb key 0x78090000 (λ e. omega arith),
+      ne-eqb key 0x780A0000 (λ e. omega arith),
+      ne-eqb key 0x784B0000 (λ e. omega arith),
+      ne-eqb key 0x78230000 (λ e. omega arith),
+      ne-eqb key 0x780E0000 (λ e. omega arith),
+      ne-eqb key 0x7B000000 (λ e. omega arith),
+    )))
+
+above-0 : (key : ℕ) → 2 ^ 29 ≤ key → 7 + rowFrom key (drop 7 rows) ≡ rowFrom key rows
+unfolding rowFrom rows
+above-0 key h =
+    rw (
+      ne-eqb key 0x00000000 (λ e. omega arith),
+      ne-eqb key 0x05000000 (λ e. omega arith),
+      ne-eqb key 0x18800000 (λ e. omega arith),
+      ne-eqb key 0x11000000 (λ e. omega arith),
+      ne-eqb key 0x10000000 (λ e. omega arith),
+      ne-eqb key 0x12000000 (λ e. omega arith),
+      ne-eqb key 0x14800000 (λ e. omega arith),
+    ) (omega arith)
+
+of-type-3 : (header : ℕ) → header < 2 ^ 32 → 2 ^ 29 ≤ header → rowFrom (header / 2 ^ 16 * 2 ^ 16) rows ≡ rowOf header
 unfolding rowOf keyOf
-key-3 header f h = let t : (field header 31 29 ≡ 0 → ⊥) = λ e. omega arith in rw (ne-eqb _ 0 t)
+of-type-3 header f h = let t : (field header 31 29 ≡ 0 → ⊥) = λ e. omega arith in rw (ne-eqb _ 0 t)
+
+-- a header with no key of type 0
+pub key-3 : (header : ℕ) → header < 2 ^ 32
+    → (header / 2 ^ 23 ≡ 0x0 → ⊥)
+    → (header / 2 ^ 23 ≡ 0xA → ⊥)
+    → (header / 2 ^ 23 ≡ 0x31 → ⊥)
+    → (header / 2 ^ 23 ≡ 0x22 → ⊥)
+    → (header / 2 ^ 23 ≡ 0x20 → ⊥)
+    → (header / 2 ^ 23 ≡ 0x24 → ⊥)
+    → (header / 2 ^ 23 ≡ 0x29 → ⊥)
+    → 7 + rowFrom (header / 2 ^ 16 * 2 ^ 16) (drop 7 rows) ≡ rowOf header
+key-3 header f n0 n1 n2 n3 n4 n5 n6 = by (ltb header (2 ^ 29)) refl
+  where
+    by : (t : Bool) → ltb header (2 ^ 29) ≡ t → 7 + rowFrom (header / 2 ^ 16 * 2 ^ 16) (drop 7 rows) ≡ rowOf header
+    by true e =
+        let h = ltb-true header (2 ^ 29) e in
+        sym (below-3 (header / 2 ^ 16 * 2 ^ 16) (omega arith))
+        ∙ unknown-0 (header / 2 ^ 23) (omega arith) n0 n1 n2 n3 n4 n5 n6
+        ∙ key-0 header (header / 2 ^ 23) refl (omega arith)
+    by false e =
+        let h = ltb-false header (2 ^ 29) e in
+        above-0 (header / 2 ^ 16 * 2 ^ 16) (omega arith) ∙ of-type-3 header f h
 
 -- the length rule of a row, by its kind
 low-byte : (header : ℕ) → field header 7 0 ≡ header % 256

@@ -1,7 +1,8 @@
 // Which row a header is, and how many dwords its command has.
 ghost use mathlib.Core.Path.{_≡_};
 ghost use mathlib.Core.Bool.{cond};
-ghost use Prim.Native.Nat.{_*_, _^_, _≤_, _<_};
+ghost use Prim.Native.Nat.{_+_, _*_, _^_, _<_};
+ghost use lib.ListN.{drop};
 ghost use Rattle.rules.specs.Words.{bit};
 ghost use Rattle.rules.specs.Commands.{rows, rowFrom, rowOf, lengthOf, groupSize, lengthRight};
 ghost use Rattle.rows.specs.Groups.{groupsRight};
@@ -19,27 +20,9 @@ pub fn mask_table() -> [[u32; 16]; 17]
     MASKS
 }
 
-// The row of a header of type 0, by its bits 28:23.
-fn row_of_type_0(key: u32) -> usize
-    requires { ⌜ key < 64 ⌝ }
-    ensures { λ r. ⌜ r ≡ rowFrom (key * 2 ^ 23) rows ⌝ }
-{
-    match key {
-        0x00 => 0,
-        0x0A => 1,
-        0x31 => 2,
-        0x22 => 3,
-        0x20 => 4,
-        0x24 => 5,
-        0x29 => 6,
-        _ => ROWS,
-    }
-}
-
-// The row of a header of any other type, by its bits 31:16: only type 3 has rows.
+// The row of a header by its bits 31:16, of the rows of type 3, or ROWS where these have none with that key.
 fn row_of_type_3(key: u32) -> usize
-    requires { ⌜ 8192 ≤ key ⌝ }
-    ensures { λ r. ⌜ r ≡ rowFrom (key * 2 ^ 16) rows ⌝ }
+    ensures { λ r. ⌜ r ≡ 7 + rowFrom (key * 2 ^ 16) (drop 7 rows) ⌝ }
 {
     match key {
         0x7A00 => 7,
@@ -56,14 +39,19 @@ fn row_of_type_3(key: u32) -> usize
     }
 }
 
-// The row of a header, or ROWS where it is in no row.
+// The row of a header, or ROWS where it is in no row. Bits 31:23 are type 0 and its key in one number, so that the type is not asked for first.
 pub fn row_of(header: u32) -> usize
     ensures { λ r. ⌜ r ≡ rowOf header ⌝ }
 {
-    if header < 0x2000_0000 {
-        row_of_type_0(header / 0x80_0000)
-    } else {
-        row_of_type_3(header / 0x1_0000)
+    match header / 0x80_0000 {
+        0x00 => 0,
+        0x0A => 1,
+        0x31 => 2,
+        0x22 => 3,
+        0x20 => 4,
+        0x24 => 5,
+        0x29 => 6,
+        _ => row_of_type_3(header / 0x1_0000),
     }
 }
 

@@ -14,12 +14,14 @@ use Rattle.rules.specs.declared.Kind.{Kind}
 use Rattle.rules.specs.declared.Kind.the-variants.{Viewport, ColourCalc}
 use Rattle.rules.specs.declared.Pointer.{Pointer}
 use Rattle.rules.specs.declared.Pointer.the-variants.{NoPointer, PointsTo}
+use Rattle.rules.specs.declared.Fault.{Fault}
+use Rattle.rules.specs.declared.Found.{Found}
 use Rattle.rules.specs.declared.Found.the-variants.{At, Nothing}
 use Rattle.rules.specs.declared.Verdict.{Verdict}
 use Rattle.rules.specs.declared.Verdict.the-variants.{Pass, Fails}
 use Rattle.rules.specs.declared.Reason.the-variants.{BitNotAllowed, NestedStart, ValueBroken, RangeOutside, BaseNeverSet}
 use Rattle.rules.specs.Words.{firstOf}
-use Rattle.rules.specs.Refusals.{inBatch, fault, tried, firstFault}
+use Rattle.rules.specs.Refusals.{inBatch, fault, refuseIf, refuseFound, tried, firstFault}
 use Rattle.rules.specs.Windows.{Capture}
 use Rattle.rules.specs.Commands.{allowedAt, bitWrong}
 use Rattle.rules.specs.Values.{valueWrong}
@@ -29,6 +31,7 @@ use Rattle.rules.specs.Step.{nested}
 use Rattle.rules.proofs.Searching.{first-found}
 use Rattle.rules.proofs.Trying.{stays-failed}
 use Rattle.rules.proofs.Readings.{reading-says}
+use Rattle.search.specs.declared.Sought.{Sought}
 use Rattle.search.specs.declared.Sought.the-variants.{Bits, Values, Ranges}
 use Rattle.search.specs.Search.{wrongAt, wrong}
 use Rattle.step.specs.Parts.{orElse, contentOf, structuralOf}
@@ -61,6 +64,36 @@ module _ (w : Windows) (r : ℕ) (d : List ℕ) (at : ℕ) (level : Level) where
         pub all-clear : firstOf (wrong Ranges w r d) (length d) ≡ Nothing → Pass ≡ contentOf w r d at level
         unfolding contentOf wrong wrongAt bitWrong allowedAt valueWrong rangeWrong accessAt
         all-clear e = rw (b, n, v, e)
+
+-- what passes them all
+pub record Clear (w : Windows) (r : ℕ) (d : List ℕ) (level : Level) : Type 0 where
+  pub found : (what : Sought) → firstOf (wrong what w r d) (length d) ≡ Nothing
+  pub unnested : nested r level ≡ false
+
+pub passes-clear : (w : Windows) (r : ℕ) (d : List ℕ) (at : ℕ) (level : Level) → contentOf w r d at level ≡ Pass → Clear w r d level
+unfolding contentOf wrong wrongAt bitWrong allowedAt valueWrong rangeWrong accessAt
+passes-clear w r d at level e =
+    by (firstOf (wrong Bits w r d) (length d)) (nested r level) (firstOf (wrong Values w r d) (length d)) (firstOf (wrong Ranges w r d) (length d)) refl refl refl refl e
+  where
+    unlike : {f : Fault} → Fails f ≡ Pass → ⊥
+    unlike q = let z : _≡_ {A = ℕ} 0 1 = cc in omega arith
+
+    by : (b : Found) (n : Bool) (v x : Found) → firstOf (wrong Bits w r d) (length d) ≡ b → nested r level ≡ n → firstOf (wrong Values w r d) (length d) ≡ v
+        → firstOf (wrong Ranges w r d) (length d) ≡ x
+        → orElse (refuseFound BitNotAllowed inBatch at b)
+        (orElse (refuseIf n (fault NestedStart inBatch at)) (orElse (refuseFound ValueBroken inBatch at v) (refuseFound RangeOutside inBatch at x)))
+        ≡ Pass
+        → Clear w r d level
+    by (At k) n v x eb en ev ex q = absurd (unlike q)
+    by Nothing true v x eb en ev ex q = absurd (unlike q)
+    by Nothing false (At k) x eb en ev ex q = absurd (unlike q)
+    by Nothing false Nothing (At k) eb en ev ex q = absurd (unlike q)
+    by Nothing false Nothing Nothing eb en ev ex q = record { found = λ what. each what; unnested = en }
+      where
+        each : (what : Sought) → firstOf (wrong what w r d) (length d) ≡ Nothing
+        each Bits = eb
+        each Values = ev
+        each Ranges = ex
 
 -- one check, and the next only where it passes
 pub tried-or : {A : Type 0} (check : A → Verdict) (checks : List (A → Verdict)) (a : A) → tried (check ∷ checks) Pass a ≡ orElse (check a) (firstFault checks a)

@@ -1,6 +1,6 @@
 -- The ways out of the checks 7 to 13, by the search and by the quick look, and what their answer tells of the step.
 -- Assumes nothing.
-use Prim.Native.Nat.{ℕ, _+_, _-_, _≤_, _<_}
+use Prim.Native.Nat.{ℕ, zero, suc, _+_, _-_, _≤_, _<_}
 use native.Mathlib.Omega.{arith}
 use mathlib.Core.Path.{_≡_, refl, sym, ap, _∙_}
 use mathlib.Core.Bool.{Bool, true, false}
@@ -20,15 +20,21 @@ use Rattle.rules.specs.declared.Reason.the-variants.{UnknownHeader, WrongLength
 use Rattle.rules.specs.Refusals.{inBatch, fault}
 use Rattle.rules.specs.Commands.{lengthOf, lengthRight}
 use Rattle.rules.specs.Step.{headerAt, rowAt, lengthAt, dwordsAt, nested, stepOf}
+use Rattle.rules.specs.Words.{firstOf}
+use Rattle.rules.specs.declared.Found.the-variants.{Nothing}
+use Rattle.rules.proofs.Searching.{never-both, none-found}
+use Rattle.search.specs.declared.Sought.{Sought}
 use Rattle.search.specs.declared.Sought.the-variants.{Bits, Values, Ranges}
-use Rattle.sift.specs.Clean.{cleanOf}
+use Rattle.search.specs.Search.{wrong}
+use Rattle.sift.specs.Clean.{freeFrom, cleanOf}
 use Rattle.sift.proofs.Looking.{clean-finds-nothing}
 use Rattle.quick.specs.Quick.{quickOf}
-use Rattle.quick.proofs.Lengths.{passed}
+use Rattle.quick.proofs.Lengths.{passes, some-length, passed}
+use Rattle.step.specs.declared.looks.Look.{Look}
 use Rattle.step.specs.declared.looks.Look.the-variants.{Whole, Wrong}
 use Rattle.step.specs.Parts.{captured, Fitted, contentOf}
-use Rattle.step.specs.Looks.{lookBy, lookOf}
-use Rattle.step.proofs.Contents.{all-clear}
+use Rattle.step.specs.Looks.{lookBy, isWrong, lookOf}
+use Rattle.step.proofs.Contents.{all-clear, passes-clear}
 use Rattle.step.proofs.Ways.{fitted, content, dwords-are, unknown-header, wrong-length, past-the-window, content-fails}
 
 -- the ways out of the search
@@ -65,30 +71,30 @@ content-same w batch at level er el = rw (er, dwords-are batch at el)
 pub rest-is : (batch : List ℕ) (at : ℕ) → take (length batch - at) (drop at batch) ≡ drop at batch
 rest-is batch at = take-all (length batch - at) (drop at batch) (omega (arith, length-drop at batch))
 
+header-first : (batch : List ℕ) (at : ℕ) → getD (drop at batch) 0 0 ≡ headerAt batch at
+header-first batch at = getD-drop at batch 0 0 ∙ ap (λ (i : ℕ). getD batch i 0) (omega arith)
+
+length-there : (batch : List ℕ) (at : ℕ) {row : ℕ} → row ≡ rowAt batch at → lengthOf row (getD (drop at batch) 0 0) ≡ lengthAt batch at
+length-there batch at er = rw (header-first batch at, er)
+
 -- the ways out of the quick look
 module _ (w : Windows) (batch : List ℕ) (at : ℕ) (level : Level) {row n : ℕ} (er : row ≡ rowAt batch at) (a : at < length batch)
     (q : n ≡ quickOf w row (drop at batch)) (z : n ≡ 0 → ⊥) where
-  header-first : getD (drop at batch) 0 0 ≡ headerAt batch at
-  header-first = getD-drop at batch 0 0 ∙ ap (λ (i : ℕ). getD batch i 0) (omega arith)
-
-  length-there : lengthOf row (getD (drop at batch) 0 0) ≡ lengthAt batch at
-  length-there = rw (header-first, er)
-
   pub counted-there : n ≡ lengthAt batch at
-  counted-there = passed w row (drop at batch) q z .counted ∙ length-there
+  counted-there = passed w row (drop at batch) q z .counted ∙ length-there batch at er
 
   known-there : rowAt batch at < 17
   known-there = omega (arith, passed w row (drop at batch) q z .known)
 
   right-there : lengthRight (rowAt batch at) (headerAt batch at) ≡ true
-  right-there = rw (header-first, er) at (passed w row (drop at batch) q z .right)
+  right-there = rw (header-first batch at, er) at (passed w row (drop at batch) q z .right)
 
   within-there : at + lengthAt batch at ≤ length batch
-  within-there = omega (arith, passed w row (drop at batch) q z .within, length-there, length-drop at batch)
+  within-there = omega (arith, passed w row (drop at batch) q z .within, length-there batch at er, length-drop at batch)
 
   clean-there : cleanOf w (rowAt batch at) (dwordsAt batch at) ≡ true
   unfolding dwordsAt
-  clean-there = rw (header-first, er) at (passed w row (drop at batch) q z .clean)
+  clean-there = rw (header-first batch at, er) at (passed w row (drop at batch) q z .clean)
 
   pub quick-look : nested row level ≡ false → Whole n ≡ lookOf w batch at level
   quick-look e =
@@ -127,6 +133,41 @@ unfolding lookOf
 looked-whole w batch at level e =
     let t = whole-by (leb 17 (rowAt batch at)) (lengthRight (rowAt batch at) (headerAt batch at)) (ltb (length batch) (at + lengthAt batch at)) (contentOf w (rowAt batch at) (dwordsAt batch at) at level) at (lengthAt batch at) e in
     record { known = leb-false _ _ (t .0); right = t .1; within = ltb-false _ _ (t .2); passes = t .3; counted = t .4 }
+
+-- where a command can't be whole, something is wrong with it
+wrong-unless : (k : Look) → ((n : ℕ) → k ≡ Whole n → ⊥) → isWrong k ≡ true
+wrong-unless (Whole n) h = absurd (h n refl)
+wrong-unless (Wrong f) h = refl
+
+-- what no search finds a fault in is clean
+free-of : (bad : ℕ → Bool) (k n : ℕ) → ((i : ℕ) → k ≤ i → i < k + n → bad i ≡ false) → freeFrom bad k n ≡ true
+unfolding freeFrom
+free-of bad k zero h = refl
+free-of bad k (suc n) h = rw (h k (omega arith) (omega arith)) (free-of bad (k + 1) n (λ i a b. h i (omega arith) (omega arith)))
+
+nothing-found : (w : Windows) (r : ℕ) (d : List ℕ) → ((what : Sought) → firstOf (wrong what w r d) (length d) ≡ Nothing) → cleanOf w r d ≡ true
+unfolding cleanOf
+nothing-found w r d h = rw (free Bits, free Values, free Ranges)
+  where
+    free : (what : Sought) → freeFrom (wrong what w r d) 0 (length d) ≡ true
+    free what = free-of (wrong what w r d) 0 (length d) (none-found (wrong what w r d) 0 (length d) (h what))
+
+module _ (w : Windows) (batch : List ℕ) (at : ℕ) (level : Level) {row : ℕ} (er : row ≡ rowAt batch at) where
+  pub nested-wrong : nested row level ≡ true → isWrong (lookOf w batch at level) ≡ true
+  nested-wrong e = wrong-unless (lookOf w batch at level) (λ n l. never-both (rw er at e) (passes-clear w _ _ at level (looked-whole w batch at level l .passes) .unnested))
+
+  pub quick-wrong : {n : ℕ} → n ≡ quickOf w row (drop at batch) → n ≡ 0 → isWrong (lookOf w batch at level) ≡ true
+  unfolding dwordsAt
+  quick-wrong {n} q z = wrong-unless (lookOf w batch at level) refuted
+    where
+      refuted : (m : ℕ) → lookOf w batch at level ≡ Whole m → ⊥
+      refuted m e =
+          let l = looked-whole w batch at level e in
+          let found = passes-clear w _ _ at level (l .passes) .found in
+          let p = passes w row (drop at batch) (omega (arith, er, l .known)) (rw (header-first batch at, er) (l .right))
+          (omega (arith, l .within, length-there batch at er, length-drop at batch))
+          (rw (header-first batch at, er) (nothing-found w (rowAt batch at) (dwordsAt batch at) found)) in
+          omega (arith, p, q, z, some-length row (getD (drop at batch) 0 0))
 
 module _ {w : Windows} {batch state : List ℕ} (s : Cursor) (f : Fitted w batch state) where
   pub passes-there : {n : ℕ} → Looked w batch (s .at) (s .level) n → content (captured w batch state) s ≡ Pass

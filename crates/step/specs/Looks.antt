@@ -24,6 +24,11 @@ lookBy false true true v at n = Wrong (fault PastTheWindow inBatch at)
 lookBy false true false Pass at n = Whole n
 lookBy false true false (Fails f) at n = Wrong f
 
+-- something is wrong with the command
+abbrev pub isWrong : Look → Bool
+isWrong (Whole n) = false
+isWrong (Wrong f) = true
+
 unfoldable pub lookOf : Windows → List ℕ → ℕ → Level → Look
 lookOf w batch at level =
     lookBy (leb 17 (rowAt batch at)) (lengthRight (rowAt batch at) (headerAt batch at)) (ltb (length batch) (at + lengthAt batch at))

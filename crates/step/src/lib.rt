@@ -6,7 +6,6 @@ ghost use Rattle.rules.specs.declared.Outcome.the-variants.{Refused};
 ghost use Rattle.rules.specs.Refusals.{fault, inBatch};
 ghost use Rattle.rules.specs.Formats.{surfaceFormats};
 ghost use Rattle.rules.specs.Step.{stepOf};
-ghost use Rattle.rows.specs.Masks.{maskTable};
 ghost use Rattle.step.specs.Parts.{captured, Fitted, SmallBase};
 use faults::pointer_of;
 use faults::structure_fault;
@@ -44,10 +43,9 @@ pub fn step<'a>(
     state: &'a [u32],
     w: Windows,
     s: Cursor,
-    masks: &[[u32; 16]; 17],
     formats: &[u16; 512],
 ) -> Outcome
-    requires { ⌜ (Fitted w (now batch) (now state)) × (SmallBase (s .base)) × (now masks ≡ maskTable) × (now formats ≡ surfaceFormats) ⌝ }
+    requires { ⌜ (Fitted w (now batch) (now state)) × (SmallBase (s .base)) × (now formats ≡ surfaceFormats) ⌝ }
     ensures { λ r. ⌜ r ≡ stepOf (captured w (now (batch .entry)) (now (state .entry))) s ⌝ }
 {
     let at = s.at;
@@ -57,7 +55,7 @@ pub fn step<'a>(
         return refused(Reason::RanOff, at);
     }
     let row = row_of(batch[at]);
-    match looked(batch, w, row, at, level, masks, formats) {
+    match looked(batch, w, row, at, level, formats) {
         Look::Wrong(f) => Outcome::Refused(f),
         Look::Whole(length) => {
             let next = at + length;

@@ -11,12 +11,14 @@ use mathlib.Core.Logic.{⊎-elim}
 use lib.ListN.{length, getD, drop, set, length-append, length-drop, length-set}
 use lib.Dec.{eqb}
 use lib.Seq.{drop-cons, set-at}
+use borrow.Author.Tests.{eqb-true, eqb-false}
 use borrow.Rule.Slice.PartMut.{putMid, midOf, mid-len, set-mid-at}
 use Rattle.rules.specs.declared.Windows.{Windows}
 use Rattle.rules.specs.declared.Answer.{Answer}
 use Rattle.rules.specs.declared.Base.{Base}
 use Rattle.rules.specs.declared.Base.the-variants.{Unset, Set}
-use Rattle.rules.specs.declared.Level.the-variants.{First}
+use Rattle.rules.specs.declared.Level.{Level}
+use Rattle.rules.specs.declared.Level.the-variants.{First, Second}
 use Rattle.rules.specs.declared.Cursor.{Cursor}
 use Rattle.rules.specs.declared.Command.{Command}
 use Rattle.rules.specs.declared.After.{After}
@@ -29,9 +31,10 @@ use Rattle.rules.specs.declared.Reason.the-variants.{BudgetSpent, RecordsFull}
 use Rattle.rules.specs.Words.{bit}
 use Rattle.rules.specs.Refusals.{inBatch, fault}
 use Rattle.rules.specs.Windows.{Capture, windowsOf, lengthsOf, windowFault}
-use Rattle.rules.specs.Step.{budget, baseRow, newBase, baseAfter, commandAt, stepOf}
+use Rattle.rules.specs.Step.{budget, baseRow, newBase, baseAfter, levelNumber, commandAt, stepOf}
 use Rattle.rules.specs.Walk.{Run, ended, then, trace, traceFrom, cut, start, commandsOf, endOf, answerWith, answerOf}
 use Rattle.rules.specs.Records.{recordOf, wordsOf, roomOf, writtenOf, Checked}
+use Rattle.rules.proofs.Searching.{never-both}
 use Rattle.rules.proofs.Unique.{words-counted}
 use Rattle.rules.proofs.Running.{follow, commands-follow, end-follows}
 use Rattle.rules.proofs.Stepping.{took}
@@ -39,7 +42,7 @@ use Rattle.rules.proofs.Walking.{walk-sound, walk-unsound}
 use Rattle.rules.proofs.Places.{refusal-place}
 use Rattle.rules.proofs.Moving.{Within, Way, ends, returns, jumps, calls, goes-on, taken-way, same-cursor, ends-nowhere, stays-within, starts-within}
 use Rattle.step.specs.Parts.{captured, Fitted, SmallBase}
-use Rattle.walk.specs.Lent.{Ran}
+use Rattle.walk.specs.Lent.{keptAt, stopFor, Ran}
 
 -- the commands done stand in the record buffer, the rest of it is as it came, and the walk is these commands and then the run r
 pub record SoFar (base : Base) (c : Capture) (old new : List ℕ) (n : ℕ) (r : Run) : Type 0 where
@@ -167,6 +170,26 @@ module _ {base : Base} {c : Capture} {old new : List ℕ} {n : ℕ} {s : Cursor}
     so-far = wrote (rw (left 65536 n h, left (length old) n z, e) at (g .so-far)) z;
   }
 
+-- a command that is not taken stops the run: for the budget, where that is spent, and else for its own fault
+module _ {base : Base} {c : Capture} {old new : List ℕ} {n : ℕ} {s : Cursor} (g : Going base c old new n s) where
+  pub stops : (f : Fault) → (n < 65536 → Ran base c old (answerWith (Fails f) n) new) → Ran base c old (answerWith (Fails (stopFor f (s .at) n)) n) new
+  stops f h = by (eqb n 65536) refl
+    where
+      by : (t : Bool) → eqb n 65536 ≡ t → Ran base c old (answerWith (Fails (cond t (fault BudgetSpent inBatch (s .at)) f)) n) new
+      by true e = out-of-budget g (omega (arith, eqb-true n 65536 e))
+      by false e = h (let m = eqb-false n 65536 e in omega (arith, g .budgeted))
+
+-- the room for records is what the buffer has, or the budget
+module _ {base : Base} {c : Capture} {old new : List ℕ} {n : ℕ} {s : Cursor} (g : Going base c old new n s) {room : ℕ}
+    (m : (room ≤ length old) × (room ≤ 65536) × (room < 65536 → room ≡ length old)) where
+  pub none-left-there : n ≡ room → n < 65536 → length new ≤ n
+  none-left-there e h = let z = m .2 (omega arith) in omega (arith, g .same)
+
+  pub some-left : n ≤ room → (n ≡ room → ⊥) → (n < 65536) × (n < length new) × (n < room)
+  some-left l e =
+      let z : n < room = omega arith in
+      (omega (arith, m .1), omega (arith, m .0, g .same), z)
+
 -- a write to the first word of the tail from n on is a write at n
 pub tail-written : (n v : ℕ) (l : List ℕ) → n < length l → putMid n (length l - n) l (set (midOf n (length l - n) l) 0 v) ≡ set l n v
 tail-written n v l h =
@@ -212,3 +235,12 @@ no-base = record { small = λ b e. absurd (let z : _≡_ {A = ℕ} 0 1 = cc in o
 pub judged : (c : Capture) {w : Windows} {v : Verdict} → w ≡ windowsOf c → v ≡ windowFault (record { batch = length (c .batch); state = length (c .state); windows = w })
     → windowFault (lengthsOf c) ≡ v
 judged c e p = ap (λ (w : Windows). windowFault (record { batch = length (c .batch); state = length (c .state); windows = w })) (sym e) ∙ sym p
+
+-- a level, put together from whether it is the second, and what it keeps
+pub same-second : (l : Level) → eqb (levelNumber l) 1 ≡ true → Second (keptAt l) ≡ l
+same-second First e = absurd (never-both e refl)
+same-second (Second back) e = refl
+
+pub same-first : (l : Level) → eqb (levelNumber l) 1 ≡ false → First ≡ l
+same-first First e = refl
+same-first (Second back) e = absurd (never-both refl e)

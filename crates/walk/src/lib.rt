@@ -1,13 +1,17 @@
 // Does the capture run to its end, and what did it do on the way? The public call `check`, and the loop behind it.
 ghost use mathlib.Core.Path.{_≡_};
-ghost use Prim.Native.Nat.{_≤_};
+ghost use Prim.Native.Nat.{_^_, _≤_, _<_};
 ghost use lib.ListN.{length};
+ghost use lib.Dec.{eqb};
 ghost use Rattle.rules.specs.declared.Reason.the-variants.{BudgetSpent, RecordsFull};
+ghost use Rattle.rules.specs.declared.Verdict.the-variants.{Fails};
 ghost use Rattle.rules.specs.Refusals.{fault, inBatch};
 ghost use Rattle.rules.specs.Windows.{windowsOf};
+ghost use Rattle.rules.specs.Step.{budget, levelNumber};
+ghost use Rattle.rules.specs.Walk.{answerWith};
 ghost use Rattle.rules.specs.Records.{Checked};
 ghost use Rattle.step.specs.Parts.{captured, Fitted, SmallBase};
-ghost use Rattle.walk.specs.Lent.{captureOf, Ran};
+ghost use Rattle.walk.specs.Lent.{captureOf, keptAt, stopFor, Ran};
 use answers::acceptance;
 use answers::refusal;
 use records::record_of;
@@ -31,7 +35,7 @@ mod records;
 // How many commands a run may have.
 const BUDGET: usize = 65536;
 
-// The run of a capture whose windows are sound, from its first dword on. The tables are copied here once, and lent down.
+// The run of a capture whose windows are sound, from its first dword on. The table of formats is copied here once, and lent down.
 fn run<'a>(
     batch: &'a [u32],
     state: &'a [u32],
@@ -42,40 +46,83 @@ fn run<'a>(
     requires { ⌜ (Fitted w (now batch) (now state)) × (length (now batch) ≤ 4096) × (length (now state) ≤ 4096) × (SmallBase base) ⌝ }
     ensures { λ r. ⌜ Ran base (captured w (now (batch .entry)) (now (state .entry))) (now (records .entry)) r (now (records .exit)) ⌝ }
 {
-    let masks = rows::mask_table();
     let formats = formats::SURFACE_FORMATS;
+    let room = room_in(records.len());
     let mut n: usize = 0;
     let mut s = Cursor {
         at: 0,
         level: Level::First,
         base,
     };
-    while n < BUDGET {
+    loop {
         let at = s.at;
-        match step(batch, state, w, s, &masks, &formats) {
-            Outcome::Refused(f) => return refusal(f, n),
+        match step(batch, state, w, s, &formats) {
+            Outcome::Refused(f) => return stopped(f, at, n),
             Outcome::Taken(command, after) => {
-                if records.len() <= n {
-                    return refusal(full(at), n);
+                if n == room {
+                    return stopped(full(at), at, n);
                 }
-                write_record(&mut records[n..], record_of(command));
-                n += 1;
                 match after {
-                    After::Ends => return acceptance(n),
-                    After::To(t) => s = fresh(t),
+                    After::Ends => {
+                        write_record(&mut records[n..], record_of(command));
+                        return acceptance(n + 1);
+                    }
+                    After::To(t) => {
+                        write_record(&mut records[n..], record_of(command));
+                        n += 1;
+                        s = fresh(t);
+                    }
                 }
             }
         }
     }
-    refusal(spent(s.at), n)
 }
 
+// How many commands can be recorded: as many as there is room for, and no more than the budget. So the walk tests one number for both.
+fn room_in(len: usize) -> usize
+    ensures { λ r. ⌜ (r ≤ len) × (r ≤ budget) × (r < budget → r ≡ len) ⌝ }
+{
+    if len < BUDGET { len } else { BUDGET }
+}
+
+// The answer where the command at the position is not taken, for this fault: behind the last command of the budget it is the budget's.
+fn stopped(f: Fault, at: usize, n: usize) -> Answer
+    requires { ⌜ (f .window < 2 ^ 32) × (f .index < 2 ^ 32) × (at < 2 ^ 32) × (n < 2 ^ 32) ⌝ }
+    ensures { λ r. ⌜ r ≡ answerWith (Fails (stopFor f at n)) n ⌝ }
+{
+    if n == BUDGET {
+        return refusal(spent(at), n);
+    }
+    refusal(f, n)
+}
+
+fn is_second(level: Level) -> bool
+    ensures { λ r. ⌜ r ≡ eqb (levelNumber level) 1 ⌝ }
+{
+    match level {
+        Level::First => false,
+        Level::Second(_) => true,
+    }
+}
+
+// The position that is kept, or 0 where none is.
+fn kept(level: Level) -> usize
+    ensures { λ r. ⌜ r ≡ keptAt level ⌝ }
+{
+    match level {
+        Level::First => 0,
+        Level::Second(back) => back,
+    }
+}
+
+// By a test, so that the compiler knows the tag for a 0 or a 1, and it can go into a record as it is.
 fn fresh_level(level: Level) -> Level
     ensures { λ r. ⌜ r ≡ level ⌝ }
 {
-    match level {
-        Level::First => Level::First,
-        Level::Second(back) => Level::Second(back),
+    if is_second(level) {
+        Level::Second(kept(level))
+    } else {
+        Level::First
     }
 }
 

@@ -3,7 +3,7 @@
 use borrow.Author.Needs.{needs}
 use mathlib.Core.Path.{sym, ap, _∙_}
 use Rattle.quick.specs.Quick.{quickOf}
-use Rattle.step.proofs.Looking.{rest-is, quick-look}
+use Rattle.step.proofs.Looking.{rest-is, quick-look, nested-wrong, quick-wrong}
 use Rattle.step.proofs.looks.looked.Statement.{statement}
 use Rattle.step.proofs.looks.looked.Tie as tie
 
@@ -11,7 +11,7 @@ is-nested-requires : tie.Need-is-nested-requires
 is-nested-requires c κs = search needs
 
 searched-requires : tie.Need-searched-requires
-searched-requires c κs = search needs
+searched-requires c κs = let p = c .before .before .before .pre in let a = c .before .before .before .args in (search needs, nested-wrong _ (a .batch .now) (a .at) _ (p .1) (sym (c .before .is-nested .ensures) ∙ c .if1 .taken), p .2)
 
 returns : tie.Need-returns
 returns c = search needs
@@ -32,7 +32,7 @@ quick-requires : tie.Need-quick-requires
 quick-requires c κs = search needs
 
 searched-requires-2 : tie.Need-searched-requires-2
-searched-requires-2 c κs = search needs
+searched-requires-2 c κs = let p = c .before .before .before .before .before .before .pre in let a = c .before .before .before .before .before .before .args in (search needs, quick-wrong _ (a .batch .now) (a .at) _ (p .1) (c .before .quick .ensures ∙ ap (quickOf (a .w) (a .row)) (rest-is (a .batch .now) (a .at))) (c .if2 .taken), p .2)
 
 returns-2 : tie.Need-returns-2
 returns-2 c = search needs
