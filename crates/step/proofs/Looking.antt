@@ -18,15 +18,17 @@ use Rattle.rules.specs.declared.Verdict.{Verdict}
 use Rattle.rules.specs.declared.Verdict.the-variants.{Pass, Fails}
 use Rattle.rules.specs.declared.Reason.the-variants.{UnknownHeader, WrongLength, PastTheWindow}
 use Rattle.rules.specs.Refusals.{inBatch, fault}
-use Rattle.rules.specs.Commands.{lengthOf, lengthRight}
+use Rattle.rules.specs.Commands.{lengthOf, lengthRight, allowedAt, bitWrong}
+use Rattle.rules.specs.Values.{valueWrong}
+use Rattle.rules.specs.Addresses.{accessAt, rangeWrong}
 use Rattle.rules.specs.Step.{headerAt, rowAt, lengthAt, dwordsAt, nested, stepOf}
 use Rattle.rules.specs.Words.{firstOf}
 use Rattle.rules.specs.declared.Found.the-variants.{Nothing}
 use Rattle.rules.proofs.Searching.{never-both, none-found}
 use Rattle.search.specs.declared.Sought.{Sought}
 use Rattle.search.specs.declared.Sought.the-variants.{Bits, Values, Ranges}
-use Rattle.search.specs.Search.{wrong}
-use Rattle.sift.specs.Clean.{freeFrom, cleanOf}
+use Rattle.search.specs.Search.{wrongAt, wrong}
+use Rattle.sift.specs.Clean.{freeFrom, faulty, cleanOf}
 use Rattle.sift.proofs.Looking.{clean-finds-nothing}
 use Rattle.quick.specs.Quick.{quickOf}
 use Rattle.quick.proofs.Lengths.{passes, some-length, passed}
@@ -146,11 +148,11 @@ free-of bad k zero h = refl
 free-of bad k (suc n) h = rw (h k (omega arith) (omega arith)) (free-of bad (k + 1) n (λ i a b. h i (omega arith) (omega arith)))
 
 nothing-found : (w : Windows) (r : ℕ) (d : List ℕ) → ((what : Sought) → firstOf (wrong what w r d) (length d) ≡ Nothing) → cleanOf w r d ≡ true
-unfolding cleanOf
-nothing-found w r d h = rw (free Bits, free Values, free Ranges)
+unfolding faulty cleanOf wrong wrongAt allowedAt bitWrong valueWrong accessAt rangeWrong
+nothing-found w r d h = free-of (faulty w r d) 0 (length d) (λ i a b. rw (none Bits i a b, none Values i a b, none Ranges i a b))
   where
-    free : (what : Sought) → freeFrom (wrong what w r d) 0 (length d) ≡ true
-    free what = free-of (wrong what w r d) 0 (length d) (none-found (wrong what w r d) 0 (length d) (h what))
+    none : (what : Sought) (i : ℕ) → 0 ≤ i → i < 0 + length d → wrong what w r d i ≡ false
+    none what = none-found (wrong what w r d) 0 (length d) (h what)
 
 module _ (w : Windows) (batch : List ℕ) (at : ℕ) (level : Level) {row : ℕ} (er : row ≡ rowAt batch at) where
   pub nested-wrong : nested row level ≡ true → isWrong (lookOf w batch at level) ≡ true
