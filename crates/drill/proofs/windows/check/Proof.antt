@@ -1,11 +1,11 @@
--- `ask_into` is safe: what is lent lies within the dwords and the records.
+-- `ask` is safe: what is lent lies within the words and the records.
 -- Assumes nothing.
-use borrow.Author.Needs.{needs}
 use lib.Seq.{length-take-le}
 use mathlib.Core.Path.{sym}
 use native.Mathlib.Omega.{arith}
-use Rattle.drill.proofs.bench.ask_into.Statement.{statement}
-use Rattle.drill.proofs.bench.ask_into.Tie as tie
+use borrow.Author.Needs.{needs}
+use Rattle.drill.proofs.windows.check.Statement.{statement}
+use Rattle.drill.proofs.windows.check.Tie as tie
 
 at-most-requires : tie.Need-at-most-requires
 at-most-requires c κs = search needs
@@ -13,8 +13,8 @@ at-most-requires c κs = search needs
 at-most-requires-2 : tie.Need-at-most-requires-2
 at-most-requires-2 c κs = search needs
 
-add-end : tie.Need-add-end
-add-end c = search needs
+add-state : tie.Need-add-state
+add-state c = search needs
 
 at-most-requires-3 : tie.Need-at-most-requires-3
 at-most-requires-3 c κs = search needs
@@ -49,13 +49,13 @@ same-length c = search needs
 returns : tie.Need-returns
 returns c = search needs
 
-pub ask-into-spec : {M : Type 1} → statement M
-ask-into-spec =
+pub check-spec : {M : Type 1} → statement M
+check-spec =
     tie.close
     (tie.spec
     at-most-requires
     at-most-requires-2
-    add-end
+    add-state
     at-most-requires-3
     slice-aggregate-check
     mul-check
