@@ -4,6 +4,7 @@ use crate::reading::pick;
 use crate::reading::read;
 use crate::sayings;
 use crate::scans::scan;
+use crate::scans::values;
 use crate::windows::ARGUMENTS;
 use crate::windows::BATCH_DWORDS;
 use crate::windows::LENT;
@@ -39,7 +40,12 @@ fn question(letter: u8, words: &mut [u32; WORDS]) {
     match letter {
         b'g' => go(words),
         b'f' => file(words),
-        _ => scan(letter, words),
+        _ => {
+            let n = values(letter, words);
+            if 0 < n {
+                scan(letter, n, words);
+            }
+        }
     }
 }
 

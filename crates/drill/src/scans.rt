@@ -14,7 +14,7 @@ use std::num::wrapping_add_u32;
 use std::num::wrapping_sub_u32;
 
 // How many values a line asks for, by its letter. A line with another letter asks for none.
-fn values(letter: u8, words: &[u32; WORDS]) -> u32 {
+pub(crate) fn values(letter: u8, words: &[u32; WORDS]) -> u32 {
     match letter {
         b'a' => 33,
         b't' => 32,
@@ -25,44 +25,39 @@ fn values(letter: u8, words: &[u32; WORDS]) -> u32 {
     }
 }
 
-// The value behind x, where a line goes by steps.
-fn next(letter: u8, x: u32, words: &[u32; WORDS]) -> u32 {
-    let mask = pick(letter == b'm', get(ARGUMENTS, 5, words), 0xFFFF_FFFF);
-    wrapping_add_u32(x, get(ARGUMENTS, 3, words)) & mask
-}
-
 // Value v, by the line's letter: from the value x before it, or from the dword as it stood.
 fn value(letter: u8, v: u32, x: u32, stood: u32, words: &[u32; WORDS]) -> u32 {
     let bit = 1u32 << (v % 32);
     let named = get(ARGUMENTS, 2, words);
+    let next = wrapping_add_u32(x, get(ARGUMENTS, 3, words));
     match letter {
         b'a' => pick(v < 32, bit, named),
         b't' => stood ^ bit,
         b'l' => get(ARGUMENTS, wrapping_add_u32(v, 2), words),
-        _ => pick(v == 0, named, next(letter, x, words)),
+        b'm' => pick(v == 0, named, next & get(ARGUMENTS, 5, words)),
+        _ => pick(v == 0, named, next),
     }
 }
 
-// The dword that the line names.
-fn varied(words: &[u32; WORDS]) -> u32 {
-    get(get(ARGUMENTS, 0, words), get(ARGUMENTS, 1, words), words)
-}
-
-fn vary(x: u32, words: &mut [u32; WORDS]) {
-    set(get(ARGUMENTS, 0, words), get(ARGUMENTS, 1, words), x, words);
-}
-
-// Asks at value v, and answers what it was told. The value before it stands in the dword.
-fn step(letter: u8, v: u32, stood: u32, last: Answer, words: &mut [u32; WORDS]) -> Answer {
-    let x = value(letter, v, varied(words), stood, words);
-    vary(x, words);
+// Asks at value v of a dword, and answers what it was told. The value before it stands in the dword.
+fn step(
+    letter: u8,
+    v: u32,
+    window: u32,
+    i: u32,
+    stood: u32,
+    last: Answer,
+    words: &mut [u32; WORDS],
+) -> Answer {
+    let x = value(letter, v, get(window, i, words), stood, words);
+    set(window, i, x, words);
     let a = ask(words);
     sayings::found(x, a, last);
     a
 }
 
 // Asks at each of n values. No answer comes before the first.
-fn steps(letter: u8, n: u32, stood: u32, words: &mut [u32; WORDS]) {
+fn steps(letter: u8, n: u32, window: u32, i: u32, stood: u32, words: &mut [u32; WORDS]) {
     let mut last = Answer {
         reason: UNWRITTEN,
         window: 0,
@@ -71,19 +66,17 @@ fn steps(letter: u8, n: u32, stood: u32, words: &mut [u32; WORDS]) {
     };
     let mut v = 0;
     while v < n {
-        last = step(letter, v, stood, last, words);
+        last = step(letter, v, window, i, stood, last, words);
         v += 1;
     }
 }
 
-// The line's values, and behind them the last one. The dword stands as it stood.
-pub(crate) fn scan(letter: u8, words: &mut [u32; WORDS]) {
-    let n = values(letter, words);
-    if n == 0 {
-        return;
-    }
-    let stood = varied(words);
-    steps(letter, n, stood, words);
-    sayings::last(varied(words) as u64);
-    vary(stood, words);
+// The n values of the dword that the line names, and behind them the last one. The dword stands as it stood.
+pub(crate) fn scan(letter: u8, n: u32, words: &mut [u32; WORDS]) {
+    let window = get(ARGUMENTS, 0, words);
+    let i = get(ARGUMENTS, 1, words);
+    let stood = get(window, i, words);
+    steps(letter, n, window, i, stood, words);
+    sayings::last(get(window, i, words) as u64);
+    set(window, i, stood, words);
 }

@@ -36,17 +36,6 @@ pub(crate) const LENT: usize = 65600;
 // A lent word that nobody has written: no record and no dword of the lines is like it.
 pub(crate) const UNWRITTEN: u32 = 0xEEEE_EEEE;
 
-// The numbers of a capture, and how many record words are lent.
-struct Capture {
-    batch: u32,
-    state: u32,
-    lent: u32,
-    batch_at: u64,
-    state_at: u64,
-    scratch_at: u64,
-    scratch_bytes: u32,
-}
-
 // Where a word of a window stands. One that is out of room stands nowhere.
 fn place(window: u32, i: u32) -> usize {
     if window < 4 && i < ROOM {
@@ -78,42 +67,34 @@ pub(crate) fn at_most(n: u32, limit: usize) -> usize
     }
 }
 
+// A number of the capture.
+fn number(i: u32, words: &[u32]) -> u32 {
+    let p = place(NUMBERS, i);
+    if p < words.len() { words[p] } else { 0 }
+}
+
 // The address whose lower dword is this number of the capture.
-fn address(i: u32, words: &[u32; WORDS]) -> u64 {
-    let low = get(NUMBERS, i, words) as u64;
-    let high = get(NUMBERS, i | 1, words) as u64;
+fn address(i: u32, words: &[u32]) -> u64 {
+    let low = number(i, words) as u64;
+    let high = number(i | 1, words) as u64;
     (high << 32) | low
 }
 
-// Asks the checker, with no more lent to it than the capture has.
-fn check(c: Capture, words: &[u32], records: &mut [u32]) -> Answer {
+// Asks the checker about the capture that the words make, with no more lent to it than the capture has.
+pub(crate) fn ask_into(records: &mut [u32], words: &[u32]) -> Answer {
     let room = words.len() / 4;
-    let batch = at_most(c.batch, room);
-    let state = room + at_most(c.state, room);
-    let lent = at_most(c.lent, records.len());
+    let batch = at_most(number(BATCH_DWORDS, words), room);
+    let state = room + at_most(number(STATE_DWORDS, words), room);
+    let lent = at_most(number(RECORD_WORDS, words), records.len());
     walk::check(
         &words[..batch],
-        c.batch_at,
+        address(BATCH_AT, words),
         &words[room..state],
-        c.state_at,
-        c.scratch_at,
-        c.scratch_bytes,
+        address(STATE_AT, words),
+        address(SCRATCH_AT, words),
+        number(SCRATCH_BYTES, words),
         &mut records[..lent],
     )
-}
-
-// Asks the checker about the capture that the words make.
-pub(crate) fn ask_into(records: &mut [u32; LENT], words: &[u32; WORDS]) -> Answer {
-    let c = Capture {
-        batch: get(NUMBERS, BATCH_DWORDS, words),
-        state: get(NUMBERS, STATE_DWORDS, words),
-        lent: get(NUMBERS, RECORD_WORDS, words),
-        batch_at: address(BATCH_AT, words),
-        state_at: address(STATE_AT, words),
-        scratch_at: address(SCRATCH_AT, words),
-        scratch_bytes: get(NUMBERS, SCRATCH_BYTES, words),
-    };
-    check(c, words, records)
 }
 
 // Asks for the answer alone.

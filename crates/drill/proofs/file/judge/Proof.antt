@@ -26,22 +26,22 @@ slice-aggregate-judge-3 : tie.Need-slice-aggregate-judge-3
 slice-aggregate-judge-3 c = sym (length-take-le _ _ (omega arith))
 
 judge-requires : tie.Need-judge-requires
-judge-requires c κs = search needs
+judge-requires c κs = tt
 
 answer-requires : tie.Need-answer-requires
-answer-requires c κs = search needs
+answer-requires c κs = tt
 
 words-requires : tie.Need-words-requires
-words-requires c κs = search needs
+words-requires c κs = omega arith
 
 words-requires-2 : tie.Need-words-requires-2
-words-requires-2 c κs = search needs
+words-requires-2 c κs = omega arith
 
 words-requires-3 : tie.Need-words-requires-3
-words-requires-3 c κs = search needs
+words-requires-3 c κs = omega arith
 
 returns : tie.Need-returns
-returns c = search needs
+returns c = tt
 
 pub judge-spec : {M : Type 1} → statement M
 judge-spec =

@@ -6,10 +6,10 @@ use Rattle.drill.proofs.scans.steps.Statement.{statement}
 use Rattle.drill.proofs.scans.steps.Tie as tie
 
 abbrev Inv-loop : tie.InvT-loop
-Inv-loop letter n stood words₀ last₀ v₀ words last v = Unit {0}
+Inv-loop letter n window i stood words₀ last₀ v₀ words last v = Unit {0}
 
 abbrev μ-loop : tie.MeasureT-loop
-μ-loop letter n stood words₀ last₀ v₀ words last v = n - v
+μ-loop letter n window i stood words₀ last₀ v₀ words last v = n - v
 
 loop-holds : tie.Need-loop-holds Inv-loop μ-loop
 loop-holds c = tt

@@ -4,11 +4,17 @@ use lib.Seq.{length-take-le}
 use mathlib.Core.Path.{sym}
 use native.Mathlib.Omega.{arith}
 use borrow.Author.Needs.{needs}
-use Rattle.drill.proofs.windows.check.Statement.{statement}
-use Rattle.drill.proofs.windows.check.Tie as tie
+use Rattle.drill.proofs.windows.ask_into.Statement.{statement}
+use Rattle.drill.proofs.windows.ask_into.Tie as tie
+
+number-requires : tie.Need-number-requires
+number-requires c κs = search needs
 
 at-most-requires : tie.Need-at-most-requires
 at-most-requires c κs = search needs
+
+number-requires-2 : tie.Need-number-requires-2
+number-requires-2 c κs = search needs
 
 at-most-requires-2 : tie.Need-at-most-requires-2
 at-most-requires-2 c κs = search needs
@@ -16,11 +22,17 @@ at-most-requires-2 c κs = search needs
 add-state : tie.Need-add-state
 add-state c = search needs
 
+number-requires-3 : tie.Need-number-requires-3
+number-requires-3 c κs = search needs
+
 at-most-requires-3 : tie.Need-at-most-requires-3
 at-most-requires-3 c κs = search needs
 
 slice-aggregate-check : tie.Need-slice-aggregate-check
 slice-aggregate-check c = sym (length-take-le _ _ (omega arith))
+
+address-requires : tie.Need-address-requires
+address-requires c κs = search needs
 
 mul-check : tie.Need-mul-check
 mul-check c = search needs
@@ -33,6 +45,15 @@ part-check-start c = search needs
 
 part-check-end : tie.Need-part-check-end
 part-check-end c = search needs
+
+address-requires-2 : tie.Need-address-requires-2
+address-requires-2 c κs = search needs
+
+address-requires-3 : tie.Need-address-requires-3
+address-requires-3 c κs = search needs
+
+number-requires-4 : tie.Need-number-requires-4
+number-requires-4 c κs = search needs
 
 slice-relend-prefix-check : tie.Need-slice-relend-prefix-check
 slice-relend-prefix-check c = search needs
@@ -49,19 +70,26 @@ same-length c = search needs
 returns : tie.Need-returns
 returns c = search needs
 
-pub check-spec : {M : Type 1} → statement M
-check-spec =
+pub ask-into-spec : {M : Type 1} → statement M
+ask-into-spec =
     tie.close
     (tie.spec
+    number-requires
     at-most-requires
+    number-requires-2
     at-most-requires-2
     add-state
+    number-requires-3
     at-most-requires-3
     slice-aggregate-check
+    address-requires
     mul-check
     sub-check
     part-check-start
     part-check-end
+    address-requires-2
+    address-requires-3
+    number-requires-4
     slice-relend-prefix-check
     slice-aggregate-check-2
     check-requires
