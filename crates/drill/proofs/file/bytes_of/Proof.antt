@@ -21,7 +21,7 @@ cast-get : tie.Need-cast-get Inv-loop μ-loop
 cast-get c = search needs
 
 get-requires : tie.Need-get-requires Inv-loop μ-loop
-get-requires c κs = search needs
+get-requires c κs = tt
 
 mul-shift : tie.Need-mul-shift Inv-loop μ-loop
 mul-shift c = search needs

@@ -3,7 +3,6 @@
 use lib.Seq.{length-take-le}
 use mathlib.Core.Path.{sym}
 use native.Mathlib.Omega.{arith}
-use borrow.Author.Needs.{needs}
 use Rattle.drill.proofs.file.file.Statement.{statement}
 use Rattle.drill.proofs.file.file.Tie as tie
 

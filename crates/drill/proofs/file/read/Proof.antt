@@ -20,19 +20,19 @@ slice-aggregate-lungevati-read-2 : tie.Need-slice-aggregate-lungevati-read-2
 slice-aggregate-lungevati-read-2 c = sym (length-take-le _ _ (omega arith))
 
 lungevati-read-requires : tie.Need-lungevati-read-requires
-lungevati-read-requires c κs = search needs
+lungevati-read-requires c κs = tt
 
 contents-requires : tie.Need-contents-requires
-contents-requires c κs = search needs
+contents-requires c κs = tt
 
 words-requires : tie.Need-words-requires
-words-requires c κs = search needs
+words-requires c κs = omega arith
 
 words-requires-2 : tie.Need-words-requires-2
-words-requires-2 c κs = search needs
+words-requires-2 c κs = omega arith
 
 returns : tie.Need-returns
-returns c = search needs
+returns c = tt
 
 pub read-spec : {M : Type 1} → statement M
 read-spec =

@@ -12,28 +12,28 @@ abbrev μ-loop : tie.MeasureT-loop
 μ-loop window group next times words₀ size to₀ words to = 8448 - to
 
 wrapping-sub-u32-requires : tie.Need-wrapping-sub-u32-requires Inv-loop μ-loop
-wrapping-sub-u32-requires c κs = search needs
+wrapping-sub-u32-requires c κs = tt
 
 returns : tie.Need-returns Inv-loop μ-loop
-returns c = search needs
+returns c = tt
 
 loop-holds : tie.Need-loop-holds Inv-loop μ-loop
 loop-holds c = tt
 
 wrapping-sub-u32-requires-2 : tie.Need-wrapping-sub-u32-requires-2 Inv-loop μ-loop
-wrapping-sub-u32-requires-2 c κs = search needs
+wrapping-sub-u32-requires-2 c κs = tt
 
 div-if2 : tie.Need-div-if2 Inv-loop μ-loop
 div-if2 c = search needs
 
 wrapping-sub-u32-requires-3 : tie.Need-wrapping-sub-u32-requires-3 Inv-loop μ-loop
-wrapping-sub-u32-requires-3 c κs = search needs
+wrapping-sub-u32-requires-3 c κs = tt
 
 get-requires : tie.Need-get-requires Inv-loop μ-loop
-get-requires c κs = search needs
+get-requires c κs = tt
 
 set-requires : tie.Need-set-requires Inv-loop μ-loop
-set-requires c κs = search needs
+set-requires c κs = tt
 
 add-to : tie.Need-add-to Inv-loop μ-loop
 add-to c = search needs
@@ -45,10 +45,10 @@ loop-again : tie.Need-loop-again Inv-loop μ-loop
 loop-again c = tt
 
 returns-2 : tie.Need-returns-2 Inv-loop μ-loop
-returns-2 c = search needs
+returns-2 c = tt
 
 returns-3 : tie.Need-returns-3 Inv-loop μ-loop
-returns-3 c = search needs
+returns-3 c = tt
 
 pub repeat-spec : {M : Type 1} → statement M
 repeat-spec =

@@ -21,7 +21,7 @@ element-copy-out-word : tie.Need-element-copy-out-word Inv-loop μ-loop
 element-copy-out-word c = search needs
 
 word-requires : tie.Need-word-requires Inv-loop μ-loop
-word-requires c κs = search needs
+word-requires c κs = tt
 
 add-i : tie.Need-add-i Inv-loop μ-loop
 add-i c = search needs
@@ -33,10 +33,10 @@ loop-again : tie.Need-loop-again Inv-loop μ-loop
 loop-again c = tt
 
 last-requires : tie.Need-last-requires Inv-loop μ-loop
-last-requires c κs = search needs
+last-requires c κs = tt
 
 returns : tie.Need-returns Inv-loop μ-loop
-returns c = search needs
+returns c = tt
 
 pub words-spec : {M : Type 1} → statement M
 words-spec =
