@@ -61,16 +61,22 @@ fn read(file: &[u8], m: usize, n: usize)
     sayings::words(&state, n);
 }
 
-// The file judged with as many words, and k record words: the answer, the records, and again both buffers.
+// The file judged with both buffers and k record words: the answer, and the records.
+fn verdict(file: &[u8], batch: &mut [u32], state: &mut [u32], k: usize)
+    requires { ⌜ k ≤ 65600 ⌝ }
+{
+    let mut records = [UNWRITTEN; LENT];
+    sayings::answer(capture::judge(file, batch, state, &mut records[..k]));
+    sayings::words(&records, k);
+}
+
+// The file judged with as many words: the verdict, and again both buffers.
 fn judge(file: &[u8], m: usize, n: usize, k: usize)
     requires { ⌜ (m ≤ 65600) × (n ≤ 65600) × (k ≤ 65600) ⌝ }
 {
     let mut batch = [UNWRITTEN; LENT];
     let mut state = [UNWRITTEN; LENT];
-    let mut records = [UNWRITTEN; LENT];
-    let a = capture::judge(file, &mut batch[..m], &mut state[..n], &mut records[..k]);
-    sayings::answer(a);
-    sayings::words(&records, k);
+    verdict(file, &mut batch[..m], &mut state[..n], k);
     sayings::words(&batch, m);
     sayings::words(&state, n);
 }

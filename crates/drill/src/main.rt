@@ -34,11 +34,12 @@ fn line_end(input: &[u8], at: usize) -> usize
 }
 
 // Obeys each line of the input in turn. What a line sets stays for those behind it.
-fn obey_all(input: &[u8], words: &mut [u32; WORDS]) {
+fn obey_all(input: &[u8]) {
+    let mut words = [0u32; WORDS];
     let mut at = 0;
     while at < input.len() {
         let end = line_end(input, at);
-        obey::obey(input[at], &input[at..end], words);
+        obey::obey(input[at], &input[at..end], &mut words);
         at = end;
     }
 }
@@ -46,6 +47,5 @@ fn obey_all(input: &[u8], words: &mut [u32; WORDS]) {
 fn main() {
     let mut input = [0u8; INPUT_BYTES];
     let n = io::read_full(STDIN_FILENO, &mut input);
-    let mut words = [0u32; WORDS];
-    obey_all(&input[..n], &mut words);
+    obey_all(&input[..n]);
 }
