@@ -1,180 +1,93 @@
-// A capture file made of the lines' dwords, read and judged, with whatever its trailer claims.
-use crate::bench::Bench;
-use crate::bench::MOST;
-use crate::bench::UNWRITTEN;
-use crate::bench::WORDS;
-use crate::bench::at_most;
-use crate::bench::dword;
-use crate::bench::high;
-use crate::bench::low;
+// A capture file whose bytes are the batch window's, read and judged.
+ghost use mathlib.Core.Path.{_≡_};
+ghost use Prim.Native.Nat.{_≤_};
+ghost use lib.ListN.{length};
 use crate::sayings;
+use crate::windows::ARGUMENTS;
+use crate::windows::LENT;
+use crate::windows::NUMBERS;
+use crate::windows::RECORD_WORDS;
+use crate::windows::ROOM;
+use crate::windows::UNWRITTEN;
+use crate::windows::WORDS;
+use crate::windows::at_most;
+use crate::windows::get;
+use api::FileContents;
 use rules::Answer;
-use rules::Contents;
-use rules::Opened;
-use rules::Reason;
 
-// Room for a file that is longer than the longest.
-const FILE_BYTES: usize = 33000;
+// As many bytes as the batch window has room for.
+const FILE_BYTES: usize = 4 * ROOM as usize;
 
-// How many record words are lent for a file.
-const FILE_RECORDS: usize = 8;
-
-// What a line says of a file: its bytes, what the trailer claims, and how many words are lent to the reader.
-pub(crate) struct Claims {
-    pub bytes: usize,
-    pub distance: u32,
-    pub batch: u32,
-    pub state: u32,
-    pub batch_room: usize,
-    pub state_room: usize,
-}
-
-fn put_byte(file: &mut [u8; FILE_BYTES], at: usize, x: u8) {
-    if at < FILE_BYTES {
-        file[at] = x;
-    }
-}
-
-// Puts a dword, the lowest byte first, and answers the place behind it.
-fn put_dword(file: &mut [u8; FILE_BYTES], at: usize, x: u32) -> usize {
-    let p = at_most(at, FILE_BYTES);
-    put_byte(file, p, (x % 256) as u8);
-    put_byte(file, p + 1, (x / 256 % 256) as u8);
-    put_byte(file, p + 2, (x / 65536 % 256) as u8);
-    put_byte(file, p + 3, (x / 16777216) as u8);
-    p + 4
-}
-
-fn put_address(file: &mut [u8; FILE_BYTES], at: usize, x: u64) -> usize {
-    let p = put_dword(file, at, low(x));
-    put_dword(file, p, high(x))
-}
-
-fn put_words(
-    file: &mut [u8; FILE_BYTES],
-    at: usize,
-    window: u64,
-    n: usize,
-    words: &[u32; WORDS],
-) -> usize {
-    let mut p = at;
+// The bytes of the batch window's words, the lowest of each word first.
+fn bytes_of(words: &[u32; WORDS]) -> [u8; FILE_BYTES]
+    ensures { λ r. ⌜ 33792 ≡ length r ⌝ }
+{
+    let mut file = [0u8; FILE_BYTES];
     let mut i = 0;
-    while i < n {
-        p = put_dword(file, p, dword(window, i, words));
+    while i < FILE_BYTES {
+        let word = get(0, (i / 4) as u32, words);
+        let shift = 8 * (i % 4);
+        file[i] = ((word >> shift) % 256) as u8;
         i += 1;
     }
-    p
+    file
 }
 
-// The trailer is the file's last 40 bytes. A shorter file has none.
-fn put_trailer(file: &mut [u8; FILE_BYTES], b: Bench, c: Claims) {
-    if 40 <= c.bytes {
-        let p = put_address(file, c.bytes - 40, b.batch_at);
-        let p = put_address(file, p, b.state_at);
-        let p = put_address(file, p, b.scratch_at);
-        let p = put_dword(file, p, b.scratch_len);
-        let p = put_dword(file, p, c.batch);
-        let p = put_dword(file, p, c.state);
-        put_dword(file, p, c.distance);
-    }
+// The reader's answer, and what the trailer says: 0 throughout where the file is not read.
+fn contents(c: FileContents) {
+    sayings::answer(Answer {
+        reason: c.reason,
+        window: c.window,
+        index: c.index,
+        count: c.count,
+    });
+    sayings::hex(c.batch_at);
+    sayings::hex(c.state_at);
+    sayings::hex(c.scratch_at);
+    sayings::hex(c.scratch_len as u64);
+    sayings::hex(c.batch_count as u64);
+    sayings::hex(c.state_count as u64);
+    sayings::text(b"\n");
 }
 
-// Document 01's number of what a reader can refuse.
-fn number_of(reason: Reason) -> u32 {
-    match reason {
-        Reason::FileSize => 19,
-        Reason::FileDistance => 20,
-        Reason::WrongCounts => 1,
-        Reason::BufferShort => 21,
-        _ => 0,
-    }
+// The file read into m and n words: what the trailer says, and both buffers.
+fn read(file: &[u8], m: usize, n: usize)
+    requires { ⌜ (m ≤ 65600) × (n ≤ 65600) ⌝ }
+{
+    let mut batch = [UNWRITTEN; LENT];
+    let mut state = [UNWRITTEN; LENT];
+    contents(api::lungevati_read(file, &mut batch[..m], &mut state[..n]));
+    sayings::words(&batch, m);
+    sayings::words(&state, n);
 }
 
-// What the trailer says, in its order.
-fn say_contents(c: Contents) {
-    sayings::item(c.batch.at);
-    sayings::item(c.state.at);
-    sayings::item(c.scratch.at);
-    sayings::item(c.scratch.bytes);
-    sayings::item(c.batch.count as u64);
-    sayings::item(c.state.count as u64);
+// The file judged with both buffers and k record words: the answer, and the records.
+fn verdict(file: &[u8], batch: &mut [u32], state: &mut [u32], k: usize)
+    requires { ⌜ k ≤ 65600 ⌝ }
+{
+    let mut records = [UNWRITTEN; LENT];
+    sayings::answer(capture::judge(file, batch, state, &mut records[..k]));
+    sayings::words(&records, k);
 }
 
-fn say_opened(o: Opened) {
-    match o {
-        Opened::Holds(c) => {
-            sayings::text(b"  holds");
-            say_contents(c);
-        }
-        Opened::NotRead(reason) => {
-            sayings::text(b"  not read");
-            sayings::decimal(number_of(reason));
-        }
-    }
-    sayings::end_line();
+// The file judged with as many words: the verdict, and again both buffers.
+fn judge(file: &[u8], m: usize, n: usize, k: usize)
+    requires { ⌜ (m ≤ 65600) × (n ≤ 65600) × (k ≤ 65600) ⌝ }
+{
+    let mut batch = [UNWRITTEN; LENT];
+    let mut state = [UNWRITTEN; LENT];
+    verdict(file, &mut batch[..m], &mut state[..n], k);
+    sayings::words(&batch, m);
+    sayings::words(&state, n);
 }
 
-// Has the file read into the words lent.
-fn read_into(file: &[u8], c: Claims, batch: &mut [u32], state: &mut [u32]) -> Opened {
-    let bytes = at_most(c.bytes, file.len());
-    let n = at_most(c.batch_room, batch.len());
-    let m = at_most(c.state_room, state.len());
-    capture::read(&file[..bytes], &mut batch[..n], &mut state[..m])
-}
-
-// Has the file judged with the words lent.
-fn judge_into(
-    file: &[u8],
-    c: Claims,
-    batch: &mut [u32],
-    state: &mut [u32],
-    records: &mut [u32],
-) -> Answer {
-    let bytes = at_most(c.bytes, file.len());
-    let n = at_most(c.batch_room, batch.len());
-    let m = at_most(c.state_room, state.len());
-    capture::judge(&file[..bytes], &mut batch[..n], &mut state[..m], records)
-}
-
-fn say_records(words: &[u32; FILE_RECORDS]) {
-    sayings::words(words);
-}
-
-fn say_buffer(words: &[u32; MOST], n: usize) {
-    sayings::first_words(words, n);
-}
-
-// The file read: what the trailer says, and both lent buffers, word by word.
-fn say_read(file: &[u8], c: Claims) {
-    let mut batch = [UNWRITTEN; MOST];
-    let mut state = [UNWRITTEN; MOST];
-    say_opened(read_into(file, c, &mut batch, &mut state));
-    say_buffer(&batch, c.batch_room);
-    say_buffer(&state, c.state_room);
-}
-
-// The file judged: the answer, the record words, and again both buffers.
-fn say_judged(file: &[u8], c: Claims) {
-    let mut batch = [UNWRITTEN; MOST];
-    let mut state = [UNWRITTEN; MOST];
-    let mut records = [UNWRITTEN; FILE_RECORDS];
-    let a = judge_into(file, c, &mut batch, &mut state, &mut records);
-    sayings::answered(a);
-    say_records(&records);
-    say_buffer(&batch, c.batch_room);
-    say_buffer(&state, c.state_room);
-}
-
-fn say_file(file: &[u8; FILE_BYTES], c: Claims) {
-    say_read(file, c);
-    say_judged(file, c);
-}
-
-// Makes the file and has it read and judged.
-pub(crate) fn file(b: Bench, c: Claims, words: &[u32; WORDS]) {
-    let mut bytes = [0u8; FILE_BYTES];
-    let p = put_words(&mut bytes, 0, 0, b.batch, words);
-    put_words(&mut bytes, p, 1, b.state, words);
-    put_trailer(&mut bytes, b, c);
-    say_file(&bytes, c);
+// file L M N: the first L bytes, read into M and N words and judged with them.
+pub(crate) fn file(words: &[u32; WORDS]) {
+    let bytes = bytes_of(words);
+    let l = at_most(get(ARGUMENTS, 0, words), FILE_BYTES);
+    let m = at_most(get(ARGUMENTS, 1, words), LENT);
+    let n = at_most(get(ARGUMENTS, 2, words), LENT);
+    let k = at_most(get(NUMBERS, RECORD_WORDS, words), LENT);
+    read(&bytes[..l], m, n);
+    judge(&bytes[..l], m, n, k);
 }

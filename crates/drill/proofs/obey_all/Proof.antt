@@ -7,19 +7,19 @@ use Rattle.drill.proofs.obey_all.Statement.{statement}
 use Rattle.drill.proofs.obey_all.Tie as tie
 
 abbrev Inv-loop : tie.InvT-loop
-Inv-loop input words₀ b₀ at₀ words b at = Unit {0}
+Inv-loop input words₀ at₀ words at = Unit {0}
 
 abbrev μ-loop : tie.MeasureT-loop
-μ-loop input words₀ b₀ at₀ words b at = length input - at
-
-usual-requires : tie.Need-usual-requires Inv-loop μ-loop
-usual-requires c κs = search needs
+μ-loop input words₀ at₀ words at = length input - at
 
 loop-holds : tie.Need-loop-holds Inv-loop μ-loop
 loop-holds c = tt
 
 line-end-requires : tie.Need-line-end-requires Inv-loop μ-loop
 line-end-requires c κs = search needs
+
+shared-slice-read-obey : tie.Need-shared-slice-read-obey Inv-loop μ-loop
+shared-slice-read-obey c = search needs
 
 sub-obey : tie.Need-sub-obey Inv-loop μ-loop
 sub-obey c = search needs
@@ -31,10 +31,7 @@ part-obey-end : tie.Need-part-obey-end Inv-loop μ-loop
 part-obey-end c = search needs
 
 obey-requires : tie.Need-obey-requires Inv-loop μ-loop
-obey-requires c κs = search needs
-
-add-at : tie.Need-add-at Inv-loop μ-loop
-add-at c = search needs
+obey-requires c κs = tt
 
 loop-less : tie.Need-loop-less Inv-loop μ-loop
 loop-less c = search needs
@@ -43,7 +40,7 @@ loop-again : tie.Need-loop-again Inv-loop μ-loop
 loop-again c = tt
 
 returns : tie.Need-returns Inv-loop μ-loop
-returns c = search needs
+returns c = tt
 
 pub obey-all-spec : {M : Type 1} → statement M
 obey-all-spec =
@@ -51,14 +48,13 @@ obey-all-spec =
     (tie.spec
     Inv-loop
     μ-loop
-    usual-requires
     loop-holds
     line-end-requires
+    shared-slice-read-obey
     sub-obey
     part-obey-start
     part-obey-end
     obey-requires
-    add-at
     loop-less
     loop-again
     returns)

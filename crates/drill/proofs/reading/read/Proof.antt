@@ -3,17 +3,14 @@
 use Prim.Native.Nat.{_-_}
 use borrow.Author.Needs.{needs}
 use lib.ListN.{length}
-use Rattle.drill.proofs.dwords.read.Statement.{statement}
-use Rattle.drill.proofs.dwords.read.Tie as tie
+use Rattle.drill.proofs.reading.read.Statement.{statement}
+use Rattle.drill.proofs.reading.read.Tie as tie
 
 abbrev Inv-loop : tie.InvT-loop
-Inv-loop line window words₀ r₀ i₀ words r i = Unit {0}
+Inv-loop line window from words₀ r₀ i₀ words r i = Unit {0}
 
 abbrev μ-loop : tie.MeasureT-loop
-μ-loop line window words₀ r₀ i₀ words r i = length line - i
-
-unread-requires : tie.Need-unread-requires Inv-loop μ-loop
-unread-requires c κs = search needs
+μ-loop line window from words₀ r₀ i₀ words r i = length line - i
 
 loop-holds : tie.Need-loop-holds Inv-loop μ-loop
 loop-holds c = tt
@@ -22,7 +19,7 @@ shared-slice-read-feed : tie.Need-shared-slice-read-feed Inv-loop μ-loop
 shared-slice-read-feed c = search needs
 
 feed-requires : tie.Need-feed-requires Inv-loop μ-loop
-feed-requires c κs = search needs
+feed-requires c κs = tt
 
 add-i : tie.Need-add-i Inv-loop μ-loop
 add-i c = search needs
@@ -33,11 +30,8 @@ loop-less c = search needs
 loop-again : tie.Need-loop-again Inv-loop μ-loop
 loop-again c = tt
 
-finish-requires : tie.Need-finish-requires Inv-loop μ-loop
-finish-requires c κs = search needs
-
 returns : tie.Need-returns Inv-loop μ-loop
-returns c = search needs
+returns c = tt
 
 pub read-spec : {M : Type 1} → statement M
 read-spec =
@@ -45,12 +39,10 @@ read-spec =
     (tie.spec
     Inv-loop
     μ-loop
-    unread-requires
     loop-holds
     shared-slice-read-feed
     feed-requires
     add-i
     loop-less
     loop-again
-    finish-requires
     returns)

@@ -1,10 +1,10 @@
--- `line_end` meets its contract: the place goes up from the first, within the text. The measure is what is left of it.
+-- `line_end` meets its contract: the place is past the start and within the text. The measure is what is left of it.
 -- Assumes nothing.
 use Prim.Native.Nat.{_≤_, _-_}
 use borrow.Author.Needs.{needs}
 use lib.ListN.{length}
-use Rattle.drill.proofs.text.line_end.Statement.{statement}
-use Rattle.drill.proofs.text.line_end.Tie as tie
+use Rattle.drill.proofs.line_end.Statement.{statement}
+use Rattle.drill.proofs.line_end.Tie as tie
 
 abbrev Inv-loop : tie.InvT-loop
 Inv-loop input at i₀ i = (at ≤ i) × (i ≤ length input)
@@ -15,14 +15,17 @@ abbrev μ-loop : tie.MeasureT-loop
 loop-holds : tie.Need-loop-holds Inv-loop μ-loop
 loop-holds c = search needs
 
+add-i : tie.Need-add-i Inv-loop μ-loop
+add-i c = search needs
+
+sub-if1 : tie.Need-sub-if1 Inv-loop μ-loop
+sub-if1 c = search needs
+
 shared-slice-read-if1 : tie.Need-shared-slice-read-if1 Inv-loop μ-loop
 shared-slice-read-if1 c = search needs
 
 returns : tie.Need-returns Inv-loop μ-loop
 returns c = search needs
-
-add-i : tie.Need-add-i Inv-loop μ-loop
-add-i c = search needs
 
 loop-less : tie.Need-loop-less Inv-loop μ-loop
 loop-less c = search needs
@@ -40,9 +43,10 @@ line-end-spec =
     Inv-loop
     μ-loop
     loop-holds
+    add-i
+    sub-if1
     shared-slice-read-if1
     returns
-    add-i
     loop-less
     loop-again
     returns-2)
