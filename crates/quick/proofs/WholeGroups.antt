@@ -4,20 +4,21 @@ use Prim.Native.Nat.{ℕ, _+_, _-_, _*_, _/_, _%_, _^_, _≤_, _<_}
 use native.Mathlib.Nat.{lt-of-mul-lt-mul-right, mul-le-mul-right, div-add-mod', add-zero}
 use native.Mathlib.Omega.{arith}
 use mathlib.Core.Path.{_≡_, refl, sym, ap, _∙_}
-use mathlib.Core.Bool.{Bool, true, false, not, _&&_, and-true, and-false}
+use mathlib.Core.Bool.{Bool, true, false, not, _&&_, _||_, and-true, and-false}
 use mathlib.Core.List.{List, [], _∷_}
 use mathlib.Core.Logic.{⊎-elim, inl, inr}
 use lib.ListN.{length, getD}
 use lib.Dec.{eqb}
-use borrow.Author.Tests.{eqb-true, eqb-false}
+use borrow.Author.Tests.{eqb-true, ne-eqb}
 use Rattle.rules.specs.declared.Access.{Access}
 use Rattle.rules.specs.declared.Access.the-variants.{Unused}
 use Rattle.rules.specs.declared.Windows.{Windows}
-use Rattle.rules.specs.Words.{allowed, inGroup}
+use Rattle.rules.specs.Words.{allowed, inGroup, some}
 use Rattle.rules.specs.Commands.{rows, theRow, groupSize, spot, masksOf, lengthOf, lengthRight}
 use Rattle.rules.specs.Values.{componentsWrong, valueRules, ruleOf, valueWrong}
 use Rattle.rules.specs.Addresses.{vertexBufferUse, usesByRow, accessOf, addressAt, accessWrong, rangeWrong}
-use Rattle.rules.proofs.Searching.{either, and-left, and-right}
+use Rattle.rules.proofs.Searching.{never-both, or-cases, and-left, and-right}
+use Rattle.rules.proofs.Tables.{each, at-each}
 use Rattle.sift.specs.Clean.{freeFrom, cleanFrom, cleanOf, maskedFrom}
 use Rattle.sift.proofs.Looking.{bits-at, value-at, range-at, spot-in, joined, bits-decide, clean-command}
 use Rattle.quick.proofs.Lengths.{length-groups}
@@ -50,24 +51,27 @@ Unlike (k ∷ ks) r = Unlike ks r × (r ≡ k → ⊥)
 abbrev pub fixedRows : List ℕ
 fixedRows = 16 ∷ 15 ∷ 14 ∷ 13 ∷ 12 ∷ 9 ∷ 8 ∷ 7 ∷ 6 ∷ 5 ∷ 4 ∷ 2 ∷ 1 ∷ 0 ∷ []
 
-up : {r : ℕ} (n : ℕ) → (r ≡ n → ⊥) → n ≤ r → n + 1 ≤ r
-up n e h = omega arith
+none-alike : (r : ℕ) (ks : List ℕ) → Unlike ks r → some (eqb r) ks ≡ false
+unfolding some
+none-alike r [] u = refl
+none-alike r (k ∷ ks) u = rw (ne-eqb r k (u .1)) (none-alike r ks (u .0))
 
-down : {r : ℕ} (n : ℕ) → (r ≡ n → ⊥) → r < n + 1 → r < n
-down n e h = omega arith
+-- each row is one of these or one of groups
+grouped-or-fixed : ℕ → Bool
+grouped-or-fixed r = some (eqb r) fixedRows || (eqb r 3 || (eqb r 10 || eqb r 11))
+
+all-told : each grouped-or-fixed 17 ≡ true
+unfolding each some grouped-or-fixed
+all-told = refl
 
 pub of-groups : (r : ℕ) → r < 17 → Unlike fixedRows r → OfGroups r
+unfolding grouped-or-fixed
 of-groups r h u =
-    ⊎-elim (λ p. inl (eqb-true r 3 p))
+    ⊎-elim (λ p. absurd (never-both p (none-alike r fixedRows u)))
     (λ p.
-    ⊎-elim (λ q. inr (inl (eqb-true r 10 q)))
-    (λ q. inr (inr (last (eqb-false r 3 p) (eqb-false r 10 q)))) (either (eqb r 10))) (either (eqb r 3))
-  where
-    last : (r ≡ 3 → ⊥) → (r ≡ 10 → ⊥) → r ≡ 11
-    last a b =
-        let low : 11 ≤ r = up 10 b (up 9 (u .0 .0 .0 .0 .0 .1) (up 8 (u .0 .0 .0 .0 .0 .0 .1) (up 7 (u .0 .0 .0 .0 .0 .0 .0 .1) (up 6 (u .0 .0 .0 .0 .0 .0 .0 .0 .1) (up 5 (u .0 .0 .0 .0 .0 .0 .0 .0 .0 .1) (up 4 (u .0 .0 .0 .0 .0 .0 .0 .0 .0 .0 .1) (up 3 a (up 2 (u .0 .0 .0 .0 .0 .0 .0 .0 .0 .0 .0 .1) (up 1 (u .0 .0 .0 .0 .0 .0 .0 .0 .0 .0 .0 .0 .1) (up 0 (u .0 .0 .0 .0 .0 .0 .0 .0 .0 .0 .0 .0 .0 .1) (omega arith))))))))))) in
-        let high : r < 12 = down 12 (u .0 .0 .0 .0 .1) (down 13 (u .0 .0 .0 .1) (down 14 (u .0 .0 .1) (down 15 (u .0 .1) (down 16 (u .1) h)))) in
-        omega arith
+    ⊎-elim (λ q. inl (eqb-true r 3 q))
+    (λ q. inr (⊎-elim (λ t. inl (eqb-true r 10 t)) (λ t. inr (eqb-true r 11 t)) (or-cases (eqb r 10) _ q))) (or-cases (eqb r 3) _ p))
+    (or-cases (some (eqb r) fixedRows) _ (at-each grouped-or-fixed 17 all-told r h))
 
 -- a group has dwords
 pub some-dwords : {r : ℕ} → OfGroups r → 0 < groupSize r

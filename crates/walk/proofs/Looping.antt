@@ -4,7 +4,7 @@ use Prim.Native.Nat.{ℕ, zero, suc, _+_, _-_, _*_, _^_, _≤_, _<_}
 use native.Mathlib.Nat.{add-zero, sub-zero}
 use native.Mathlib.Numerals.{add-one}
 use native.Mathlib.Omega.{arith}
-use mathlib.Core.Path.{_≡_, refl, sym, ap, _∙_}
+use mathlib.Core.Path.{_≡_, refl, sym, ap, _∙_, subst}
 use mathlib.Core.Bool.{Bool, true, false, cond, _&&_}
 use mathlib.Core.List.{List, [], _∷_, _++_, append-assoc, append-nil}
 use mathlib.Core.Logic.{⊎-elim}
@@ -124,15 +124,22 @@ small-next c s {k} {t} m e = by (To t) refl (taken-way c s e)
     by a q (calls r b) = rw (← same-cursor q) m
     by a q (goes-on r n) = rw (← same-cursor q) (base-small _ _ m)
 
-pub started : (base : Base) (c : Capture) (old : List ℕ) → SmallBase base → Going base c old old 0 (start base)
+begun : (base : Base) (c : Capture) (old : List ℕ) → SmallBase base → Going base c old old 0 (start base)
 unfolding wordsOf follow
-started base c old m = record {
+begun base c old m = record {
   budgeted = omega arith;
   small = m;
   within = starts-within c base;
   same = refl;
   so-far = record { done = []; count = refl; room = omega arith; held = refl; gives = ap (λ (k : ℕ). cut k (traceFrom budget c (start base))) (sym (sub-zero (length old))) };
 }
+
+pub started : {base : Base} {s : Cursor} (c : Capture) (old : List ℕ) → s ≡ start base → SmallBase base → Going (s .base) c old old 0 s
+started {base} c old e m = rw e (begun base c old m)
+
+-- what is shown from the cursor's own base is shown from the base it was given
+pub from-start : {base : Base} {s : Cursor} {c : Capture} {old new : List ℕ} {r : Answer} → s ≡ start base → Ran (s .base) c old r new → Ran base c old r new
+from-start {base} {s} {c} {old} {new} {r} e x = subst (λ (b : Base). Ran b c old r new) (ap (λ (t : Cursor). t .base) e) x
 
 -- what each way out of a turn, and the turn itself, makes of it
 module _ {base : Base} {c : Capture} {old new : List ℕ} {n : ℕ} {s : Cursor} (g : Going base c old new n s) where

@@ -8,7 +8,7 @@ ghost use Rattle.rules.specs.declared.Verdict.the-variants.{Fails};
 ghost use Rattle.rules.specs.Refusals.{fault, inBatch};
 ghost use Rattle.rules.specs.Windows.{windowsOf};
 ghost use Rattle.rules.specs.Step.{budget, levelNumber};
-ghost use Rattle.rules.specs.Walk.{answerWith};
+ghost use Rattle.rules.specs.Walk.{start, answerWith};
 ghost use Rattle.rules.specs.Records.{Checked};
 ghost use Rattle.step.specs.Parts.{captured, Fitted, SmallBase};
 ghost use Rattle.walk.specs.Lent.{captureOf, keptAt, stopFor, Ran};
@@ -49,11 +49,7 @@ fn run<'a>(
     let formats = formats::SURFACE_FORMATS;
     let room = room_in(records.len());
     let mut n: usize = 0;
-    let mut s = Cursor {
-        at: 0,
-        level: Level::First,
-        base,
-    };
+    let mut s = started(base);
     loop {
         let at = s.at;
         match step(batch, state, w, s, &formats) {
@@ -75,6 +71,17 @@ fn run<'a>(
                 }
             }
         }
+    }
+}
+
+// Where a run starts.
+fn started(base: Base) -> Cursor
+    ensures { λ r. ⌜ r ≡ start base ⌝ }
+{
+    Cursor {
+        at: 0,
+        level: Level::First,
+        base,
     }
 }
 

@@ -21,7 +21,7 @@ one-requires : tie.Need-one-requires
 one-requires c κs = search needs
 
 returns : tie.Need-returns
-unfolding rows theRow groupSize masksOf inGroup freeFrom valueRules ruleOf valueWrong usesByRow accessOf accessAt rangeWrong
+unfolding rows theRow masksOf
 returns c = row-bits-fail _ 12 _ 5 (c .before .before .before .before .pre .0) (bits-are 12 _ _ (masks-joined _ _ _ _ _ (c .before .before .four .ensures) (c .before .one .ensures) refl) refl (lit≤ tt)) (not-true _ (c .if1 .taken))
 
 one-requires-2 : tie.Need-one-requires-2
@@ -29,7 +29,7 @@ unfolding rows theRow groupSize inGroup
 one-requires-2 c κs = (omega (arith, c .before .before .before .before .pre .0), refl, c .before .before .before .before .pre .1)
 
 returns-2 : tie.Need-returns-2
-unfolding rows theRow groupSize masksOf inGroup freeFrom valueRules ruleOf valueWrong usesByRow accessOf accessAt rangeWrong
+unfolding rows theRow groupSize inGroup freeFrom valueRules ruleOf valueWrong
 returns-2 c = row-values-fail _ 12 _ 5 (c .before .before .before .before .before .before .pre .0) 1 1 (c .before .one2 .ensures, refl, refl, lit≤ tt) (not-true _ (c .if2 .taken))
 
 index-buffer-use-requires : tie.Need-index-buffer-use-requires

@@ -21,7 +21,7 @@ two-requires : tie.Need-two-requires
 two-requires c κs = search needs
 
 returns : tie.Need-returns
-unfolding rows theRow groupSize masksOf inGroup freeFrom valueRules ruleOf valueWrong usesByRow accessOf accessAt rangeWrong
+unfolding rows theRow masksOf
 returns c = row-bits-fail _ 7 _ 6 (c .before .before .before .before .pre .0) (bits-are 7 _ _ (masks-joined _ _ _ _ _ (c .before .before .four .ensures) (c .before .two .ensures) refl) refl (lit≤ tt)) (not-true _ (c .if1 .taken))
 
 two-requires-2 : tie.Need-two-requires-2
@@ -37,7 +37,7 @@ unfolding rows theRow groupSize inGroup
 two-requires-4 c κs = (lit≤ tt, omega (arith, c .before .before .before .before .before .before .pre .0), refl, refl, c .before .before .before .before .before .before .pre .1)
 
 returns-2 : tie.Need-returns-2
-unfolding rows theRow groupSize masksOf inGroup freeFrom valueRules ruleOf valueWrong usesByRow accessOf accessAt rangeWrong
+unfolding rows theRow groupSize inGroup freeFrom valueRules ruleOf valueWrong
 returns-2 c = row-values-fail _ 7 _ 6 (c .before .before .before .before .before .before .before .before .pre .0) 0 6 (joined (valueWrong 7 (c .before .before .before .before .before .before .before .before .args .d .now)) 0 2 4 (c .before .before .before .two2 .ensures) (joined (valueWrong 7 (c .before .before .before .before .before .before .before .before .args .d .now)) 2 2 2 (c .before .before .two3 .ensures) (c .before .two4 .ensures)), refl, refl, lit≤ tt) (not-true _ (c .if2 .taken))
 
 pipe-use-requires : tie.Need-pipe-use-requires

@@ -24,7 +24,7 @@ one-requires : tie.Need-one-requires
 one-requires c κs = search needs
 
 returns : tie.Need-returns
-unfolding rows theRow groupSize masksOf inGroup freeFrom valueRules ruleOf valueWrong usesByRow accessOf accessAt rangeWrong
+unfolding rows theRow masksOf
 returns c = row-bits-fail _ 16 _ 7 (c .before .before .before .before .before .pre .0) (bits-are 16 _ _ (masks-joined _ _ _ _ _ (c .before .before .before .four .ensures) (masks-joined _ _ _ _ _ (c .before .before .two .ensures) (c .before .one .ensures) refl) refl) refl (lit≤ tt)) (not-true _ (c .if1 .taken))
 
 two-requires-2 : tie.Need-two-requires-2

@@ -23,7 +23,7 @@ one-requires : tie.Need-one-requires
 one-requires c κs = search needs
 
 returns : tie.Need-returns
-unfolding rows theRow groupSize masksOf inGroup freeFrom valueRules ruleOf valueWrong usesByRow accessOf accessAt rangeWrong
+unfolding rows theRow masksOf
 returns c = row-bits-fail _ 2 _ 3 (c .before .before .before .before .pre .0) (bits-are 2 _ _ (masks-joined _ _ _ _ _ (c .before .before .two .ensures) (c .before .one .ensures) refl) refl (lit≤ tt)) (not-true _ (c .if1 .taken))
 
 one-requires-2 : tie.Need-one-requires-2
@@ -31,7 +31,7 @@ unfolding rows theRow groupSize inGroup
 one-requires-2 c κs = (omega (arith, c .before .before .before .before .pre .0), refl, c .before .before .before .before .pre .1)
 
 returns-2 : tie.Need-returns-2
-unfolding rows theRow groupSize masksOf inGroup freeFrom valueRules ruleOf valueWrong usesByRow accessOf accessAt rangeWrong
+unfolding rows theRow groupSize inGroup freeFrom valueRules ruleOf valueWrong
 returns-2 c = row-values-fail _ 2 _ 3 (c .before .before .before .before .before .before .pre .0) 0 1 (c .before .one2 .ensures, refl, refl, lit≤ tt) (not-true _ (c .if2 .taken))
 
 held-requires : tie.Need-held-requires

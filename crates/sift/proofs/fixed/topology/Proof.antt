@@ -18,7 +18,7 @@ two-requires : tie.Need-two-requires
 two-requires c κs = search needs
 
 returns : tie.Need-returns
-unfolding rows theRow groupSize masksOf inGroup freeFrom valueRules ruleOf valueWrong usesByRow accessOf accessAt rangeWrong
+unfolding rows theRow masksOf
 returns c = row-bits-fail _ 13 _ 2 (c .before .before .before .pre .0) (bits-are 13 _ _ (c .before .two .ensures) refl (lit≤ tt)) (not-true _ (c .if1 .taken))
 
 one-requires : tie.Need-one-requires
