@@ -188,9 +188,6 @@ unfolding dwordsAt
 dwords-are batch at e = rw (add-sub-cancel-left, e)
 
 module _ {w : Windows} {batch state : List ℕ} (s : Cursor) {row len : ℕ} (f : Fitted w batch state) (er : row ≡ rowAt batch (s .at)) (el : len ≡ lengthAt batch (s .at)) where
-  pub content-is : contentOf w row (take (s .at + len - s .at) (drop (s .at) batch)) (s .at) (s .level) ≡ content (captured w batch state) s
-  content-is = rw (fitted f, er, dwords-are batch (s .at) el)
-
   pub structural-is : {p : Pointer} → p ≡ pointerOf row (take (s .at + len - s .at) (drop (s .at) batch)) → structuralOf (captured w batch state) (s .at + 1) p (s .base) ≡ structural (captured w batch state) s
   structural-is e = rw (e, er, dwords-are batch (s .at) el)
 
