@@ -1,7 +1,7 @@
 // What each line asks for. Its first letter decides.
-use crate::file::file;
-use crate::reading::pick;
-use crate::reading::read;
+use crate::reading::Reading;
+use crate::reading::feed;
+use crate::reading::window_of;
 use crate::sayings;
 use crate::scans::scan;
 use crate::scans::values;
@@ -12,49 +12,53 @@ use crate::windows::NUMBERS;
 use crate::windows::RECORD_WORDS;
 use crate::windows::UNWRITTEN;
 use crate::windows::WORDS;
-use crate::windows::ask_into;
-use crate::windows::at_most;
+use crate::windows::ask;
 use crate::windows::get;
 use crate::windows::set;
-
-// The window that a line's numbers go into.
-fn window_of(letter: u8) -> u32 {
-    match letter {
-        b'b' => 0,
-        b's' => 1,
-        b'w' => NUMBERS,
-        b'r' => NUMBERS,
-        _ => ARGUMENTS,
-    }
-}
 
 // go: the answer, and every record word lent.
 fn go(words: &[u32; WORDS]) {
     let mut records = [UNWRITTEN; LENT];
-    sayings::answer(ask_into(&mut records, words));
-    sayings::words(&records, at_most(get(NUMBERS, RECORD_WORDS, words), LENT));
+    sayings::answer(ask(&mut records, words));
+    sayings::words(&records, get(NUMBERS, RECORD_WORDS, words));
 }
 
-// The lines that ask. A line that begins with no letter of these is a remark.
-fn question(letter: u8, words: &mut [u32; WORDS]) {
+// A line has come to its end, with so many numbers. One that begins with no letter of these is a remark.
+fn obey(letter: u8, numbers: u32, words: &mut [u32; WORDS]) {
+    set(NUMBERS, BATCH_DWORDS | window_of(letter), numbers, words);
     match letter {
         b'g' => go(words),
-        b'f' => file(words),
-        _ => {
-            let n = values(letter, words);
-            if 0 < n {
-                scan(letter, n, words);
-            }
-        }
+        b'r' => set(NUMBERS, RECORD_WORDS, get(ARGUMENTS, 0, words), words),
+        _ => scan(letter, values(letter, words), words),
     }
 }
 
-// Obeys one line, which begins with this letter.
-pub(crate) fn obey(letter: u8, line: &[u8], words: &mut [u32; WORDS]) {
-    sayings::text(line);
-    let window = window_of(letter);
-    let from = pick(letter == b'r', RECORD_WORDS, 0);
-    let n = read(line, window, from, words);
-    set(NUMBERS, BATCH_DWORDS | window, n, words);
-    question(letter, words);
+// One byte more of the input. The line is echoed as it is read, so that what it asks for is printed under it.
+fn take(r: Reading, byte: u8, words: &mut [u32; WORDS]) -> Reading {
+    sayings::text(&[byte]);
+    let mut s = feed(r, byte, words);
+    if byte == b'\n' {
+        obey(s.letter, s.next, words);
+        s.letter = b'\n';
+        s.next = 0;
+    }
+    s
+}
+
+// Obeys each line of the input in turn. What a line sets stays for those behind it.
+pub(crate) fn obey_all(input: &[u8]) {
+    let mut words = [0u32; WORDS];
+    let mut r = Reading {
+        letter: b'\n',
+        next: 0,
+        group: 0,
+        value: 0,
+        open: false,
+        times: false,
+    };
+    let mut i = 0;
+    while i < input.len() {
+        r = take(r, input[i], &mut words);
+        i += 1;
+    }
 }

@@ -1,4 +1,6 @@
-// Reading a line: its hexadecimal numbers, and `[..]n` for what stands n times.
+// Reading a line: its first letter, its hexadecimal numbers, and `[..]n` for what stands n times.
+use crate::windows::ARGUMENTS;
+use crate::windows::NUMBERS;
 use crate::windows::ROOM;
 use crate::windows::WORDS;
 use crate::windows::get;
@@ -6,15 +8,25 @@ use crate::windows::set;
 use std::num::wrapping_add_u32;
 use std::num::wrapping_sub_u32;
 
-// What has been read of a line: into which window, where its next number goes, where the last bracket opened, the number that is being
-// read, whether it has a digit yet, and whether it says how often the group stands.
-struct Reading {
-    window: u32,
-    next: u32,
-    group: u32,
-    value: u32,
-    open: bool,
-    times: bool,
+// What has been read of a line: its first byte (a line feed, as long as there is none), where its next number goes, where the last bracket
+// opened, the number that is being read, whether it has a digit yet, and whether it says how often the group stands.
+pub(crate) struct Reading {
+    pub(crate) letter: u8,
+    pub(crate) next: u32,
+    pub(crate) group: u32,
+    pub(crate) value: u32,
+    pub(crate) open: bool,
+    pub(crate) times: bool,
+}
+
+// The window that a line's numbers go into.
+pub(crate) fn window_of(letter: u8) -> u32 {
+    match letter {
+        b'b' => 0,
+        b's' => 1,
+        b'w' => NUMBERS,
+        _ => ARGUMENTS,
+    }
 }
 
 // The value of a digit of document 01's hexadecimal numbers, or 16: a small letter is none, so that the words of a line are no numbers.
@@ -46,10 +58,11 @@ fn put_number(r: Reading, words: &mut [u32; WORDS]) -> u32 {
     if !r.open {
         return r.next;
     }
+    let window = window_of(r.letter);
     if r.times {
-        return repeat(r.window, r.group, r.next, r.value, words);
+        return repeat(window, r.group, r.next, r.value, words);
     }
-    set(r.window, r.next, r.value, words);
+    set(window, r.next, r.value, words);
     wrapping_add_u32(r.next, 1)
 }
 
@@ -58,7 +71,7 @@ pub(crate) fn pick(first: bool, a: u32, b: u32) -> u32 {
 }
 
 // One byte more of the line.
-fn feed(r: Reading, byte: u8, words: &mut [u32; WORDS]) -> Reading {
+pub(crate) fn feed(r: Reading, byte: u8, words: &mut [u32; WORDS]) -> Reading {
     let d = digit(byte);
     if d < 16 {
         let mut s = r;
@@ -68,29 +81,11 @@ fn feed(r: Reading, byte: u8, words: &mut [u32; WORDS]) -> Reading {
     }
     let next = put_number(r, words);
     Reading {
-        window: r.window,
+        letter: if r.letter == b'\n' { byte } else { r.letter },
         next,
         group: pick(byte == b'[', next, r.group),
         value: 0,
         open: false,
         times: byte == b']',
     }
-}
-
-// Reads the numbers of a line into a window, from a place on, and answers the place behind them. A line ends with a line feed.
-pub(crate) fn read(line: &[u8], window: u32, from: u32, words: &mut [u32; WORDS]) -> u32 {
-    let mut r = Reading {
-        window,
-        next: from,
-        group: from,
-        value: 0,
-        open: false,
-        times: false,
-    };
-    let mut i = 0;
-    while i < line.len() {
-        r = feed(r, line[i], words);
-        i += 1;
-    }
-    r.next
 }

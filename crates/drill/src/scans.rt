@@ -2,6 +2,7 @@
 use crate::reading::pick;
 use crate::sayings;
 use crate::windows::ARGUMENTS;
+use crate::windows::LENT;
 use crate::windows::NUMBERS;
 use crate::windows::QUESTION_NUMBERS;
 use crate::windows::UNWRITTEN;
@@ -39,44 +40,31 @@ fn value(letter: u8, v: u32, x: u32, stood: u32, words: &[u32; WORDS]) -> u32 {
     }
 }
 
-// Asks at value v of a dword, and answers what it was told. The value before it stands in the dword.
-fn step(
-    letter: u8,
-    v: u32,
-    window: u32,
-    i: u32,
-    stood: u32,
-    last: Answer,
-    words: &mut [u32; WORDS],
-) -> Answer {
-    let x = value(letter, v, get(window, i, words), stood, words);
-    set(window, i, x, words);
-    let a = ask(words);
-    sayings::found(x, a, last);
-    a
-}
-
-// Asks at each of n values. No answer comes before the first.
-fn steps(letter: u8, n: u32, window: u32, i: u32, stood: u32, words: &mut [u32; WORDS]) {
+// Asks at each of n values of the dword that the line names. No answer comes before the first. The dword stands as it stood.
+pub(crate) fn scan(letter: u8, n: u32, words: &mut [u32; WORDS]) {
+    if n == 0 {
+        return;
+    }
+    let window = get(ARGUMENTS, 0, words);
+    let i = get(ARGUMENTS, 1, words);
+    let stood = get(window, i, words);
+    let mut records = [UNWRITTEN; LENT];
     let mut last = Answer {
         reason: UNWRITTEN,
         window: 0,
         index: 0,
         count: 0,
     };
+    let mut x = stood;
     let mut v = 0;
     while v < n {
-        last = step(letter, v, window, i, stood, last, words);
+        x = value(letter, v, x, stood, words);
+        set(window, i, x, words);
+        let a = ask(&mut records, words);
+        sayings::found(x, a, last);
+        last = a;
         v += 1;
     }
-}
-
-// The n values of the dword that the line names, and behind them the last one. The dword stands as it stood.
-pub(crate) fn scan(letter: u8, n: u32, words: &mut [u32; WORDS]) {
-    let window = get(ARGUMENTS, 0, words);
-    let i = get(ARGUMENTS, 1, words);
-    let stood = get(window, i, words);
-    steps(letter, n, window, i, stood, words);
-    sayings::last(get(window, i, words) as u64);
+    sayings::last(x);
     set(window, i, stood, words);
 }

@@ -57,7 +57,7 @@ pub(crate) fn set(window: u32, i: u32, x: u32, words: &mut [u32; WORDS]) {
     }
 }
 
-pub(crate) fn at_most(n: u32, limit: usize) -> usize
+fn at_most(n: u32, limit: usize) -> usize
     ensures { λ r. ⌜ r ≤ limit ⌝ }
 {
     if (n as usize) < limit {
@@ -67,38 +67,27 @@ pub(crate) fn at_most(n: u32, limit: usize) -> usize
     }
 }
 
-// A number of the capture.
-fn number(i: u32, words: &[u32]) -> u32 {
-    let p = place(NUMBERS, i);
-    if p < words.len() { words[p] } else { 0 }
-}
-
 // The address whose lower dword is this number of the capture.
-fn address(i: u32, words: &[u32]) -> u64 {
-    let low = number(i, words) as u64;
-    let high = number(i | 1, words) as u64;
+fn address(i: u32, words: &[u32; WORDS]) -> u64 {
+    let low = get(NUMBERS, i, words) as u64;
+    let high = get(NUMBERS, i | 1, words) as u64;
     (high << 32) | low
 }
 
 // Asks the checker about the capture that the words make, with no more lent to it than the capture has.
-pub(crate) fn ask_into(records: &mut [u32], words: &[u32]) -> Answer {
-    let room = words.len() / 4;
-    let batch = at_most(number(BATCH_DWORDS, words), room);
-    let state = room + at_most(number(STATE_DWORDS, words), room);
-    let lent = at_most(number(RECORD_WORDS, words), records.len());
+pub(crate) fn ask(records: &mut [u32], words: &[u32; WORDS]) -> Answer {
+    let all: &[u32] = words;
+    let room = ROOM as usize;
+    let batch = at_most(get(NUMBERS, BATCH_DWORDS, words), room);
+    let state = room + at_most(get(NUMBERS, STATE_DWORDS, words), room);
+    let lent = at_most(get(NUMBERS, RECORD_WORDS, words), records.len());
     walk::check(
-        &words[..batch],
+        &all[..batch],
         address(BATCH_AT, words),
-        &words[room..state],
+        &all[room..state],
         address(STATE_AT, words),
         address(SCRATCH_AT, words),
-        number(SCRATCH_BYTES, words),
+        get(NUMBERS, SCRATCH_BYTES, words),
         &mut records[..lent],
     )
-}
-
-// Asks for the answer alone.
-pub(crate) fn ask(words: &[u32; WORDS]) -> Answer {
-    let mut records = [UNWRITTEN; LENT];
-    ask_into(&mut records, words)
 }

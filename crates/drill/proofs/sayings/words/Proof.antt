@@ -1,7 +1,7 @@
 -- `words` is safe and ends: the measure is how many words are left.
 -- Assumes nothing.
-use Prim.Native.Nat.{_-_}
 use borrow.Author.Needs.{needs}
+use Prim.Native.Nat.{_-_}
 use Rattle.drill.proofs.sayings.words.Statement.{statement}
 use Rattle.drill.proofs.sayings.words.Tie as tie
 
@@ -13,6 +13,12 @@ abbrev μ-loop : tie.MeasureT-loop
 
 loop-holds : tie.Need-loop-holds Inv-loop μ-loop
 loop-holds c = tt
+
+cast-if1 : tie.Need-cast-if1 Inv-loop μ-loop
+cast-if1 c = search needs
+
+cast-word : tie.Need-cast-word Inv-loop μ-loop
+cast-word c = search needs
 
 mul-word : tie.Need-mul-word Inv-loop μ-loop
 mul-word c = search needs
@@ -45,6 +51,8 @@ words-spec =
     Inv-loop
     μ-loop
     loop-holds
+    cast-if1
+    cast-word
     mul-word
     element-copy-out-word
     word-requires

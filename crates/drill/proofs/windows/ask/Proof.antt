@@ -1,20 +1,24 @@
 -- `ask` is safe: what is lent lies within the words and the records.
 -- Assumes nothing.
+use native.Mathlib.Omega.{arith}
 use lib.Seq.{length-take-le}
 use mathlib.Core.Path.{sym}
-use native.Mathlib.Omega.{arith}
+use lib.ListN.{length}
 use borrow.Author.Needs.{needs}
-use Rattle.drill.proofs.windows.ask_into.Statement.{statement}
-use Rattle.drill.proofs.windows.ask_into.Tie as tie
+use Rattle.drill.proofs.windows.ask.Statement.{statement}
+use Rattle.drill.proofs.windows.ask.Tie as tie
 
-number-requires : tie.Need-number-requires
-number-requires c κs = tt
+cast-room : tie.Need-cast-room
+cast-room c = search needs
+
+get-requires : tie.Need-get-requires
+get-requires c κs = tt
 
 at-most-requires : tie.Need-at-most-requires
 at-most-requires c κs = tt
 
-number-requires-2 : tie.Need-number-requires-2
-number-requires-2 c κs = tt
+get-requires-2 : tie.Need-get-requires-2
+get-requires-2 c κs = tt
 
 at-most-requires-2 : tie.Need-at-most-requires-2
 at-most-requires-2 c κs = tt
@@ -22,8 +26,8 @@ at-most-requires-2 c κs = tt
 add-state : tie.Need-add-state
 add-state c = search needs
 
-number-requires-3 : tie.Need-number-requires-3
-number-requires-3 c κs = tt
+get-requires-3 : tie.Need-get-requires-3
+get-requires-3 c κs = tt
 
 at-most-requires-3 : tie.Need-at-most-requires-3
 at-most-requires-3 c κs = tt
@@ -52,8 +56,8 @@ address-requires-2 c κs = tt
 address-requires-3 : tie.Need-address-requires-3
 address-requires-3 c κs = tt
 
-number-requires-4 : tie.Need-number-requires-4
-number-requires-4 c κs = tt
+get-requires-4 : tie.Need-get-requires-4
+get-requires-4 c κs = tt
 
 slice-relend-prefix-check : tie.Need-slice-relend-prefix-check
 slice-relend-prefix-check c = search needs
@@ -70,16 +74,17 @@ same-length c = search needs
 returns : tie.Need-returns
 returns c = tt
 
-pub ask-into-spec : {M : Type 1} → statement M
-ask-into-spec =
+pub ask-spec : {M : Type 1} → statement M
+ask-spec =
     tie.close
     (tie.spec
-    number-requires
+    cast-room
+    get-requires
     at-most-requires
-    number-requires-2
+    get-requires-2
     at-most-requires-2
     add-state
-    number-requires-3
+    get-requires-3
     at-most-requires-3
     slice-aggregate-check
     address-requires
@@ -89,7 +94,7 @@ ask-into-spec =
     part-check-end
     address-requires-2
     address-requires-3
-    number-requires-4
+    get-requires-4
     slice-relend-prefix-check
     slice-aggregate-check-2
     check-requires

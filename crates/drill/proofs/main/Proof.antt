@@ -1,0 +1,34 @@
+-- `main` is safe: what is read lies within the buffer.
+-- Assumes nothing.
+use borrow.Author.Needs.{needs}
+use Rattle.drill.proofs.main.Statement.{statement}
+use Rattle.drill.proofs.main.Tie as tie
+
+slice-aggregate-read-full : tie.Need-slice-aggregate-read-full
+slice-aggregate-read-full c = search needs
+
+read-full-requires : tie.Need-read-full-requires
+read-full-requires c κs = tt
+
+array-share-prefix-input : tie.Need-array-share-prefix-input
+array-share-prefix-input c = search needs
+
+slice-aggregate-obey-all : tie.Need-slice-aggregate-obey-all
+slice-aggregate-obey-all c = search needs
+
+obey-all-requires : tie.Need-obey-all-requires
+obey-all-requires c κs = tt
+
+returns : tie.Need-returns
+returns c = tt
+
+pub main-spec : {M : Type 1} → statement M
+main-spec =
+    tie.close
+    (tie.spec
+    slice-aggregate-read-full
+    read-full-requires
+    array-share-prefix-input
+    slice-aggregate-obey-all
+    obey-all-requires
+    returns)
