@@ -1,7 +1,7 @@
 // Reading a line: its first letter, its hexadecimal numbers, and `[..]n` for what stands n times.
 use crate::windows::ARGUMENTS;
 use crate::windows::NUMBERS;
-use crate::windows::ROOM;
+use crate::windows::STATE;
 use crate::windows::WORDS;
 use crate::windows::get;
 use crate::windows::set;
@@ -19,13 +19,25 @@ pub(crate) struct Reading {
     pub(crate) times: bool,
 }
 
-// The window that a line's numbers go into.
+// Where the window begins that a line's numbers go into.
 pub(crate) fn window_of(letter: u8) -> u32 {
     match letter {
         b'b' => 0,
-        b's' => 1,
+        b's' => STATE,
         b'w' => NUMBERS,
         _ => ARGUMENTS,
+    }
+}
+
+// A line of which the first byte is read.
+pub(crate) fn begun(letter: u8) -> Reading {
+    Reading {
+        letter,
+        next: window_of(letter),
+        group: 0,
+        value: 0,
+        open: false,
+        times: false,
     }
 }
 
@@ -39,15 +51,15 @@ fn digit(byte: u8) -> u32 {
 }
 
 // Goes on with a group until it stands so many times in all, and answers the place behind it.
-fn repeat(window: u32, group: u32, next: u32, times: u32, words: &mut [u32; WORDS]) -> u32 {
+fn repeat(group: u32, next: u32, times: u32, words: &mut [u32; WORDS]) -> u32 {
     let size = wrapping_sub_u32(next, group);
     let mut to = next;
     if size == 0 {
         return next;
     }
-    while to < ROOM && wrapping_sub_u32(to, group) / size < times {
-        let x = get(window, wrapping_sub_u32(to, size), words);
-        set(window, to, x, words);
+    while to < ARGUMENTS && wrapping_sub_u32(to, group) / size < times {
+        let x = get(wrapping_sub_u32(to, size), words);
+        set(to, x, words);
         to += 1;
     }
     to
@@ -58,11 +70,10 @@ fn put_number(r: Reading, words: &mut [u32; WORDS]) -> u32 {
     if !r.open {
         return r.next;
     }
-    let window = window_of(r.letter);
     if r.times {
-        return repeat(window, r.group, r.next, r.value, words);
+        return repeat(r.group, r.next, r.value, words);
     }
-    set(window, r.next, r.value, words);
+    set(r.next, r.value, words);
     wrapping_add_u32(r.next, 1)
 }
 
@@ -70,7 +81,7 @@ pub(crate) fn pick(first: bool, a: u32, b: u32) -> u32 {
     if first { a } else { b }
 }
 
-// One byte more of the line.
+// One byte more of a line that is begun.
 pub(crate) fn feed(r: Reading, byte: u8, words: &mut [u32; WORDS]) -> Reading {
     let d = digit(byte);
     if d < 16 {
@@ -81,7 +92,7 @@ pub(crate) fn feed(r: Reading, byte: u8, words: &mut [u32; WORDS]) -> Reading {
     }
     let next = put_number(r, words);
     Reading {
-        letter: if r.letter == b'\n' { byte } else { r.letter },
+        letter: r.letter,
         next,
         group: pick(byte == b'[', next, r.group),
         value: 0,

@@ -3,17 +3,18 @@ use crate::windows::LENT;
 use libc::STDOUT_FILENO;
 use rules::Answer;
 
-pub(crate) fn text(s: &[u8]) {
-    io::write_all(STDOUT_FILENO, s);
+// A single byte: a text would be an array that is made, lent and taken back at each place that says something.
+pub(crate) fn byte(b: u8) {
+    io::write_all(STDOUT_FILENO, &[b]);
 }
 
 fn hex(n: u32) {
-    text(b" ");
+    byte(b' ');
     io::print_hex(STDOUT_FILENO, n as u64, 1);
 }
 
 fn decimal(n: u32) {
-    text(b" ");
+    byte(b' ');
     io::print_decimal(STDOUT_FILENO, n as u64);
 }
 
@@ -23,7 +24,7 @@ pub(crate) fn answer(a: Answer) {
     decimal(a.window);
     decimal(a.index);
     decimal(a.count);
-    text(b";");
+    byte(b';');
 }
 
 // The answer from a value on, unless it is the one before it.
@@ -37,9 +38,11 @@ pub(crate) fn found(x: u32, a: Answer, before: Answer) {
 
 // The last value or place of a line.
 pub(crate) fn last(n: u32) {
-    text(b" to");
+    byte(b' ');
+    byte(b't');
+    byte(b'o');
     hex(n);
-    text(b"\n");
+    byte(b'\n');
 }
 
 // A word from its place on, unless it is the one before it. Answers what comes before the next.
@@ -47,7 +50,7 @@ fn word(i: u32, x: u32, before: u64) -> u64 {
     if x as u64 != before {
         hex(i);
         hex(x);
-        text(b";");
+        byte(b';');
     }
     x as u64
 }

@@ -3,8 +3,8 @@ use crate::reading::pick;
 use crate::sayings;
 use crate::windows::ARGUMENTS;
 use crate::windows::LENT;
-use crate::windows::NUMBERS;
 use crate::windows::QUESTION_NUMBERS;
+use crate::windows::ROOM;
 use crate::windows::UNWRITTEN;
 use crate::windows::WORDS;
 use crate::windows::ask;
@@ -14,14 +14,26 @@ use rules::Answer;
 use std::num::wrapping_add_u32;
 use std::num::wrapping_sub_u32;
 
+// Where the numbers of the line stand: the window and the dword, and what the dword is to be.
+const WINDOW: u32 = ARGUMENTS;
+
+const DWORD: u32 = ARGUMENTS + 1;
+
+const FIRST: u32 = ARGUMENTS + 2;
+
+const STEP: u32 = ARGUMENTS + 3;
+
+const MANY: u32 = ARGUMENTS + 4;
+
+const MASK: u32 = ARGUMENTS + 5;
+
 // How many values a line asks for, by its letter. A line with another letter asks for none.
 pub(crate) fn values(letter: u8, words: &[u32; WORDS]) -> u32 {
     match letter {
         b'a' => 33,
         b't' => 32,
-        b'l' => wrapping_sub_u32(get(NUMBERS, QUESTION_NUMBERS, words), 2),
-        b'v' => get(ARGUMENTS, 4, words),
-        b'm' => get(ARGUMENTS, 4, words),
+        b'l' => wrapping_sub_u32(get(QUESTION_NUMBERS, words), 2),
+        b'v' | b'm' => get(MANY, words),
         _ => 0,
     }
 }
@@ -29,27 +41,21 @@ pub(crate) fn values(letter: u8, words: &[u32; WORDS]) -> u32 {
 // Value v, by the line's letter: from the value x before it, or from the dword as it stood.
 fn value(letter: u8, v: u32, x: u32, stood: u32, words: &[u32; WORDS]) -> u32 {
     let bit = 1u32 << (v % 32);
-    let named = get(ARGUMENTS, 2, words);
-    let next = wrapping_add_u32(x, get(ARGUMENTS, 3, words));
+    let named = get(FIRST, words);
+    let next = wrapping_add_u32(x, get(STEP, words));
     match letter {
         b'a' => pick(v < 32, bit, named),
         b't' => stood ^ bit,
-        b'l' => get(ARGUMENTS, wrapping_add_u32(v, 2), words),
-        b'm' => pick(v == 0, named, next & get(ARGUMENTS, 5, words)),
+        b'l' => get(wrapping_add_u32(FIRST, v), words),
+        b'm' => pick(v == 0, named, next & get(MASK, words)),
         _ => pick(v == 0, named, next),
     }
 }
 
-// Asks at each of n values of the dword that the line names. No answer comes before the first. The dword stands as it stood.
-pub(crate) fn scan(letter: u8, n: u32, words: &mut [u32; WORDS]) {
-    if n == 0 {
-        return;
-    }
-    let window = get(ARGUMENTS, 0, words);
-    let i = get(ARGUMENTS, 1, words);
-    let stood = get(window, i, words);
+// Asks at each of n values of the word at a place, which stood so, and answers the last of them. No answer comes before the first.
+fn ask_each(letter: u8, n: u32, place: u32, stood: u32, words: &mut [u32; WORDS]) -> u32 {
     let mut records = [UNWRITTEN; LENT];
-    let mut last = Answer {
+    let mut before = Answer {
         reason: UNWRITTEN,
         window: 0,
         index: 0,
@@ -59,12 +65,22 @@ pub(crate) fn scan(letter: u8, n: u32, words: &mut [u32; WORDS]) {
     let mut v = 0;
     while v < n {
         x = value(letter, v, x, stood, words);
-        set(window, i, x, words);
+        set(place, x, words);
         let a = ask(&mut records, words);
-        sayings::found(x, a, last);
-        last = a;
+        sayings::found(x, a, before);
+        before = a;
         v += 1;
     }
-    sayings::last(x);
-    set(window, i, stood, words);
+    x
+}
+
+// Asks at n values of the dword that the line names, which then stands as it stood.
+pub(crate) fn scan(letter: u8, n: u32, words: &mut [u32; WORDS]) {
+    if 0 < n {
+        let window = get(WINDOW, words) % 4;
+        let place = wrapping_add_u32(window * ROOM, get(DWORD, words));
+        let stood = get(place, words);
+        sayings::last(ask_each(letter, n, place, stood, words));
+        set(place, stood, words);
+    }
 }

@@ -12,6 +12,9 @@ Inv-loop input words₀ r₀ i₀ words r i = Unit {0}
 abbrev μ-loop : tie.MeasureT-loop
 μ-loop input words₀ r₀ i₀ words r i = length input - i
 
+begun-requires : tie.Need-begun-requires Inv-loop μ-loop
+begun-requires c κs = tt
+
 loop-holds : tie.Need-loop-holds Inv-loop μ-loop
 loop-holds c = tt
 
@@ -39,6 +42,7 @@ obey-all-spec =
     (tie.spec
     Inv-loop
     μ-loop
+    begun-requires
     loop-holds
     shared-slice-read-take
     take-requires

@@ -1,15 +1,15 @@
 -- `repeat` is safe and ends: the measure is what is left of the room.
 -- Assumes nothing.
-use Prim.Native.Nat.{_-_}
 use borrow.Author.Needs.{needs}
+use Prim.Native.Nat.{_-_}
 use Rattle.drill.proofs.reading.repeat.Statement.{statement}
 use Rattle.drill.proofs.reading.repeat.Tie as tie
 
 abbrev Inv-loop : tie.InvT-loop
-Inv-loop window group next times words₀ size to₀ words to = Unit {0}
+Inv-loop group next times words₀ size to₀ words to = Unit {0}
 
 abbrev μ-loop : tie.MeasureT-loop
-μ-loop window group next times words₀ size to₀ words to = 8448 - to
+μ-loop group next times words₀ size to₀ words to = 25344 - to
 
 wrapping-sub-u32-requires : tie.Need-wrapping-sub-u32-requires Inv-loop μ-loop
 wrapping-sub-u32-requires c κs = tt

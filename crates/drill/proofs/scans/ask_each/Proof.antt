@@ -1,0 +1,61 @@
+-- `ask_each` is safe and ends: the record buffer keeps its length, and the measure is how many values are left.
+-- Assumes nothing.
+use borrow.Author.Needs.{needs}
+use lib.ListN.{length, length-replicate}
+use Prim.Native.Nat.{ℕ, _-_}
+use mathlib.Core.Path.{_≡_, sym}
+use Rattle.drill.proofs.scans.ask_each.Statement.{statement}
+use Rattle.drill.proofs.scans.ask_each.Tie as tie
+
+abbrev Inv-loop : tie.InvT-loop
+Inv-loop letter n place stood words₀ records₀ before₀ x₀ v₀ words records before x v = 65600 ≡ length records
+
+abbrev μ-loop : tie.MeasureT-loop
+μ-loop letter n place stood words₀ records₀ before₀ x₀ v₀ words records before x v = n - v
+
+loop-holds : tie.Need-loop-holds Inv-loop μ-loop
+loop-holds c = sym (length-replicate {A = ℕ} 65600 0xEEEEEEEE)
+
+value-requires : tie.Need-value-requires Inv-loop μ-loop
+value-requires c κs = tt
+
+set-requires : tie.Need-set-requires Inv-loop μ-loop
+set-requires c κs = tt
+
+slice-aggregate-ask : tie.Need-slice-aggregate-ask Inv-loop μ-loop
+slice-aggregate-ask c = search needs
+
+ask-requires : tie.Need-ask-requires Inv-loop μ-loop
+ask-requires c κs = tt
+
+found-requires : tie.Need-found-requires Inv-loop μ-loop
+found-requires c κs = tt
+
+add-v : tie.Need-add-v Inv-loop μ-loop
+add-v c = search needs
+
+loop-less : tie.Need-loop-less Inv-loop μ-loop
+loop-less c = search needs
+
+loop-again : tie.Need-loop-again Inv-loop μ-loop
+loop-again c = search needs
+
+returns : tie.Need-returns Inv-loop μ-loop
+returns c = tt
+
+pub ask-each-spec : {M : Type 1} → statement M
+ask-each-spec =
+    tie.close
+    (tie.spec
+    Inv-loop
+    μ-loop
+    loop-holds
+    value-requires
+    set-requires
+    slice-aggregate-ask
+    ask-requires
+    found-requires
+    add-v
+    loop-less
+    loop-again
+    returns)
