@@ -9,14 +9,22 @@ mod sayings;
 mod scans;
 mod windows;
 
-use crate::obey::obey_all;
+use crate::obey::take;
+use crate::reading::begun;
+use crate::windows::WORDS;
 use libc::STDIN_FILENO;
 
-// Room for all the lines.
+// More bytes than all the lines have. The program ends there, whatever comes in.
 const INPUT_BYTES: usize = 0x2_0000;
 
+// Obeys each line of the input in turn. What a line sets stays for those behind it.
 fn main() {
-    let mut input = [0u8; INPUT_BYTES];
-    let n = io::read_full(STDIN_FILENO, &mut input);
-    obey_all(&input[..n]);
+    let mut words = [0u32; WORDS];
+    let mut r = begun(b'\n');
+    let mut byte = [0u8; 1];
+    let mut i = 0;
+    while i < INPUT_BYTES && io::read_full(STDIN_FILENO, &mut byte) == 1 {
+        r = take(r, byte[0], &mut words);
+        i += 1;
+    }
 }

@@ -1,6 +1,7 @@
 // Reading a line: its first letter, its hexadecimal numbers, and `[..]n` for what stands n times.
 use crate::windows::ARGUMENTS;
 use crate::windows::NUMBERS;
+use crate::windows::RECORD_WORDS;
 use crate::windows::STATE;
 use crate::windows::WORDS;
 use crate::windows::get;
@@ -19,12 +20,13 @@ pub(crate) struct Reading {
     pub(crate) times: bool,
 }
 
-// Where the window begins that a line's numbers go into.
-pub(crate) fn window_of(letter: u8) -> u32 {
+// Where the first of a line's numbers goes.
+pub(crate) fn place_of(letter: u8) -> u32 {
     match letter {
         b'b' => 0,
         b's' => STATE,
         b'w' => NUMBERS,
+        b'r' => RECORD_WORDS,
         _ => ARGUMENTS,
     }
 }
@@ -33,7 +35,7 @@ pub(crate) fn window_of(letter: u8) -> u32 {
 pub(crate) fn begun(letter: u8) -> Reading {
     Reading {
         letter,
-        next: window_of(letter),
+        next: place_of(letter),
         group: 0,
         value: 0,
         open: false,

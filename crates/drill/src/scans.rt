@@ -28,7 +28,7 @@ const MANY: u32 = ARGUMENTS + 4;
 const MASK: u32 = ARGUMENTS + 5;
 
 // How many values a line asks for, by its letter. A line with another letter asks for none.
-pub(crate) fn values(letter: u8, words: &[u32; WORDS]) -> u32 {
+fn values(letter: u8, words: &[u32; WORDS]) -> u32 {
     match letter {
         b'a' => 33,
         b't' => 32,
@@ -74,8 +74,9 @@ fn ask_each(letter: u8, n: u32, place: u32, stood: u32, words: &mut [u32; WORDS]
     x
 }
 
-// Asks at n values of the dword that the line names, which then stands as it stood.
-pub(crate) fn scan(letter: u8, n: u32, words: &mut [u32; WORDS]) {
+// Asks at the values of the dword that the line names, which then stands as it stood.
+pub(crate) fn scan(letter: u8, words: &mut [u32; WORDS]) {
+    let n = values(letter, words);
     if 0 < n {
         let window = get(WINDOW, words) % 4;
         let place = wrapping_add_u32(window * ROOM, get(DWORD, words));

@@ -51,14 +51,12 @@ pub(crate) fn set(place: u32, x: u32, words: &mut [u32; WORDS]) {
     }
 }
 
-fn at_most(n: u32, limit: usize) -> usize
+// The number at a place, or the limit where it is above that.
+fn at_most(limit: usize, place: u32, words: &[u32; WORDS]) -> usize
     ensures { λ r. ⌜ r ≤ limit ⌝ }
 {
-    if (n as usize) < limit {
-        n as usize
-    } else {
-        limit
-    }
+    let n = get(place, words) as usize;
+    if n < limit { n } else { limit }
 }
 
 // The address whose lower dword stands at an even place.
@@ -72,9 +70,9 @@ fn address(place: u32, words: &[u32; WORDS]) -> u64 {
 pub(crate) fn ask(records: &mut [u32], words: &[u32; WORDS]) -> Answer {
     let all: &[u32] = words;
     let room = ROOM as usize;
-    let batch = at_most(get(BATCH_DWORDS, words), room);
-    let state = room + at_most(get(STATE_DWORDS, words), room);
-    let lent = at_most(get(RECORD_WORDS, words), records.len());
+    let batch = at_most(room, BATCH_DWORDS, words);
+    let state = room + at_most(room, STATE_DWORDS, words);
+    let lent = at_most(records.len(), RECORD_WORDS, words);
     walk::check(
         &all[..batch],
         address(BATCH_AT, words),

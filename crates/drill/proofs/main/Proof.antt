@@ -1,36 +1,65 @@
--- `main` is safe: what is read lies within the buffer.
+-- `main` is safe and ends: the buffer has room for a byte, and the measure is how many bytes may still come.
 -- Assumes nothing.
-use Prim.Native.Nat.{ℕ}
-use lib.ListN.{length-replicate}
-use mathlib.Core.Path.{sym}
+use borrow.Author.Needs.{needs}
+use lib.ListN.{length}
+use Prim.Native.Nat.{_-_}
+use mathlib.Core.Path.{_≡_}
 use Rattle.drill.proofs.main.Statement.{statement}
 use Rattle.drill.proofs.main.Tie as tie
 
-slice-aggregate-read-full : tie.Need-slice-aggregate-read-full
-slice-aggregate-read-full c = sym (length-replicate {A = ℕ} 131072 0)
+abbrev Inv-loop : tie.InvT-loop
+Inv-loop words₀ r₀ byte₀ i₀ words r byte i = 1 ≡ length byte
 
-read-full-requires : tie.Need-read-full-requires
+abbrev μ-loop : tie.MeasureT-loop
+μ-loop words₀ r₀ byte₀ i₀ words r byte i = 131072 - i
+
+begun-requires : tie.Need-begun-requires Inv-loop μ-loop
+begun-requires c κs = tt
+
+loop-holds : tie.Need-loop-holds Inv-loop μ-loop
+loop-holds c = search needs
+
+slice-aggregate-read-full : tie.Need-slice-aggregate-read-full Inv-loop μ-loop
+slice-aggregate-read-full c = search needs
+
+read-full-requires : tie.Need-read-full-requires Inv-loop μ-loop
 read-full-requires c κs = tt
 
-array-share-prefix-input : tie.Need-array-share-prefix-input
-array-share-prefix-input c = c .before .read-full .ensures .0
+array-read-take : tie.Need-array-read-take Inv-loop μ-loop
+array-read-take c = search needs
 
-slice-aggregate-obey-all : tie.Need-slice-aggregate-obey-all
-slice-aggregate-obey-all c = c .before .before .read-full .ensures .1
+take-requires : tie.Need-take-requires Inv-loop μ-loop
+take-requires c κs = tt
 
-obey-all-requires : tie.Need-obey-all-requires
-obey-all-requires c κs = tt
+add-i : tie.Need-add-i Inv-loop μ-loop
+add-i c = search needs
 
-returns : tie.Need-returns
+loop-less : tie.Need-loop-less Inv-loop μ-loop
+loop-less c = search needs
+
+loop-again : tie.Need-loop-again Inv-loop μ-loop
+loop-again c = search needs
+
+returns : tie.Need-returns Inv-loop μ-loop
 returns c = tt
+
+returns-2 : tie.Need-returns-2 Inv-loop μ-loop
+returns-2 c = tt
 
 pub main-spec : {M : Type 1} → statement M
 main-spec =
     tie.close
     (tie.spec
+    Inv-loop
+    μ-loop
+    begun-requires
+    loop-holds
     slice-aggregate-read-full
     read-full-requires
-    array-share-prefix-input
-    slice-aggregate-obey-all
-    obey-all-requires
-    returns)
+    array-read-take
+    take-requires
+    add-i
+    loop-less
+    loop-again
+    returns
+    returns-2)

@@ -11,23 +11,14 @@ use Rattle.drill.proofs.windows.ask.Tie as tie
 cast-room : tie.Need-cast-room
 cast-room c = search needs
 
-get-requires : tie.Need-get-requires
-get-requires c κs = tt
-
 at-most-requires : tie.Need-at-most-requires
 at-most-requires c κs = tt
-
-get-requires-2 : tie.Need-get-requires-2
-get-requires-2 c κs = tt
 
 at-most-requires-2 : tie.Need-at-most-requires-2
 at-most-requires-2 c κs = tt
 
 add-state : tie.Need-add-state
 add-state c = search needs
-
-get-requires-3 : tie.Need-get-requires-3
-get-requires-3 c κs = tt
 
 at-most-requires-3 : tie.Need-at-most-requires-3
 at-most-requires-3 c κs = tt
@@ -56,8 +47,8 @@ address-requires-2 c κs = tt
 address-requires-3 : tie.Need-address-requires-3
 address-requires-3 c κs = tt
 
-get-requires-4 : tie.Need-get-requires-4
-get-requires-4 c κs = tt
+get-requires : tie.Need-get-requires
+get-requires c κs = tt
 
 slice-relend-prefix-check : tie.Need-slice-relend-prefix-check
 slice-relend-prefix-check c = search needs
@@ -79,12 +70,9 @@ ask-spec =
     tie.close
     (tie.spec
     cast-room
-    get-requires
     at-most-requires
-    get-requires-2
     at-most-requires-2
     add-state
-    get-requires-3
     at-most-requires-3
     slice-aggregate-check
     address-requires
@@ -94,7 +82,7 @@ ask-spec =
     part-check-end
     address-requires-2
     address-requires-3
-    get-requires-4
+    get-requires
     slice-relend-prefix-check
     slice-aggregate-check-2
     check-requires
