@@ -52,8 +52,10 @@ fn value(letter: u8, v: u32, x: u32, stood: u32, words: &[u32; WORDS]) -> u32 {
     }
 }
 
-// Asks at each of n values of the word at a place, which stood so, and answers the last of them. No answer comes before the first.
-fn ask_each(letter: u8, n: u32, place: u32, stood: u32, words: &mut [u32; WORDS]) -> u32 {
+// Asks at each of n values of the word at a place, which stood so, and answers the last of them. No answer comes before the first. Only
+// a copy of the words is varied, so that the dword stands as it stood for the lines behind.
+fn ask_each(letter: u8, n: u32, place: u32, stood: u32, words: &[u32; WORDS]) -> u32 {
+    let mut varied = *words;
     let mut records = [UNWRITTEN; LENT];
     let mut before = Answer {
         reason: UNWRITTEN,
@@ -65,8 +67,8 @@ fn ask_each(letter: u8, n: u32, place: u32, stood: u32, words: &mut [u32; WORDS]
     let mut v = 0;
     while v < n {
         x = value(letter, v, x, stood, words);
-        set(place, x, words);
-        let a = ask(&mut records, words);
+        set(place, x, &mut varied);
+        let a = ask(&mut records, &varied);
         sayings::found(x, a, before);
         before = a;
         v += 1;
@@ -74,14 +76,12 @@ fn ask_each(letter: u8, n: u32, place: u32, stood: u32, words: &mut [u32; WORDS]
     x
 }
 
-// Asks at the values of the dword that the line names, which then stands as it stood.
-pub(crate) fn scan(letter: u8, words: &mut [u32; WORDS]) {
+// Asks at the values of the dword that the line names.
+pub(crate) fn scan(letter: u8, words: &[u32; WORDS]) {
     let n = values(letter, words);
     if 0 < n {
         let window = get(WINDOW, words) % 4;
         let place = wrapping_add_u32(window * ROOM, get(DWORD, words));
-        let stood = get(place, words);
-        sayings::last(ask_each(letter, n, place, stood, words));
-        set(place, stood, words);
+        sayings::last(ask_each(letter, n, place, get(place, words), words));
     }
 }

@@ -8,10 +8,10 @@ use Rattle.drill.proofs.scans.ask_each.Statement.{statement}
 use Rattle.drill.proofs.scans.ask_each.Tie as tie
 
 abbrev Inv-loop : tie.InvT-loop
-Inv-loop letter n place stood words₀ records₀ before₀ x₀ v₀ words records before x v = 65600 ≡ length records
+Inv-loop letter n place stood words varied₀ records₀ before₀ x₀ v₀ varied records before x v = 65600 ≡ length records
 
 abbrev μ-loop : tie.MeasureT-loop
-μ-loop letter n place stood words₀ records₀ before₀ x₀ v₀ words records before x v = n - v
+μ-loop letter n place stood words varied₀ records₀ before₀ x₀ v₀ varied records before x v = n - v
 
 loop-holds : tie.Need-loop-holds Inv-loop μ-loop
 loop-holds c = sym (length-replicate {A = ℕ} 65600 0xEEEEEEEE)
