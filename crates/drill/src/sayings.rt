@@ -27,13 +27,14 @@ pub(crate) fn answer(a: Answer) {
     byte(b';');
 }
 
-// The answer from a value on, unless it is the one before it.
-pub(crate) fn found(x: u32, a: Answer, before: Answer) {
+// The answer from a value on, unless it is the one before it. Answers what comes before the next.
+pub(crate) fn found(x: u32, a: Answer, before: Answer) -> Answer {
     let same_place = (a.window == before.window) & (a.index == before.index);
     if !((a.reason == before.reason) & same_place & (a.count == before.count)) {
         hex(x);
         answer(a);
     }
+    a
 }
 
 // The last value or place of a line.

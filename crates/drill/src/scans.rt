@@ -68,9 +68,7 @@ fn ask_each(letter: u8, n: u32, place: u32, stood: u32, words: &[u32; WORDS]) ->
     while v < n {
         x = value(letter, v, x, stood, words);
         set(place, x, &mut varied);
-        let a = ask(&mut records, &varied);
-        sayings::found(x, a, before);
-        before = a;
+        before = sayings::found(x, ask(&mut records, &varied), before);
         v += 1;
     }
     x

@@ -1,6 +1,7 @@
 -- `repeat` is safe and ends: the measure is what is left of the room.
 -- Assumes nothing.
 use borrow.Author.Needs.{needs}
+use native.Mathlib.Omega.{arith}
 use Prim.Native.Nat.{_-_}
 use Rattle.drill.proofs.reading.repeat.Statement.{statement}
 use Rattle.drill.proofs.reading.repeat.Tie as tie
@@ -39,7 +40,7 @@ add-to : tie.Need-add-to Inv-loop μ-loop
 add-to c = search needs
 
 loop-less : tie.Need-loop-less Inv-loop μ-loop
-loop-less c = search needs
+loop-less c = omega arith
 
 loop-again : tie.Need-loop-again Inv-loop μ-loop
 loop-again c = tt

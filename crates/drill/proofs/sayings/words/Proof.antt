@@ -1,6 +1,7 @@
 -- `words` is safe and ends: the measure is how many words are left.
 -- Assumes nothing.
 use borrow.Author.Needs.{needs}
+use native.Mathlib.Omega.{arith}
 use Prim.Native.Nat.{_-_}
 use Rattle.drill.proofs.sayings.words.Statement.{statement}
 use Rattle.drill.proofs.sayings.words.Tie as tie
@@ -33,7 +34,7 @@ add-i : tie.Need-add-i Inv-loop μ-loop
 add-i c = search needs
 
 loop-less : tie.Need-loop-less Inv-loop μ-loop
-loop-less c = search needs
+loop-less c = omega arith
 
 loop-again : tie.Need-loop-again Inv-loop μ-loop
 loop-again c = tt

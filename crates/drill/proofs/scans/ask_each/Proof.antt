@@ -1,6 +1,7 @@
 -- `ask_each` is safe and ends: the record buffer keeps its length, and the measure is how many values are left.
 -- Assumes nothing.
 use borrow.Author.Needs.{needs}
+use native.Mathlib.Omega.{arith}
 use lib.ListN.{length, length-replicate}
 use Prim.Native.Nat.{ℕ, _-_}
 use mathlib.Core.Path.{_≡_, sym}
@@ -23,7 +24,7 @@ set-requires : tie.Need-set-requires Inv-loop μ-loop
 set-requires c κs = tt
 
 slice-aggregate-ask : tie.Need-slice-aggregate-ask Inv-loop μ-loop
-slice-aggregate-ask c = search needs
+slice-aggregate-ask c = omega arith
 
 ask-requires : tie.Need-ask-requires Inv-loop μ-loop
 ask-requires c κs = tt
@@ -35,10 +36,10 @@ add-v : tie.Need-add-v Inv-loop μ-loop
 add-v c = search needs
 
 loop-less : tie.Need-loop-less Inv-loop μ-loop
-loop-less c = search needs
+loop-less c = omega arith
 
 loop-again : tie.Need-loop-again Inv-loop μ-loop
-loop-again c = search needs
+loop-again c = omega arith
 
 returns : tie.Need-returns Inv-loop μ-loop
 returns c = tt

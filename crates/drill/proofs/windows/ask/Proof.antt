@@ -18,7 +18,7 @@ at-most-requires-2 : tie.Need-at-most-requires-2
 at-most-requires-2 c κs = tt
 
 add-state : tie.Need-add-state
-add-state c = search needs
+add-state c = omega arith
 
 at-most-requires-3 : tie.Need-at-most-requires-3
 at-most-requires-3 c κs = tt
@@ -33,13 +33,13 @@ mul-check : tie.Need-mul-check
 mul-check c = search needs
 
 sub-check : tie.Need-sub-check
-sub-check c = search needs
+sub-check c = omega arith
 
 part-check-start : tie.Need-part-check-start
-part-check-start c = search needs
+part-check-start c = omega arith
 
 part-check-end : tie.Need-part-check-end
-part-check-end c = search needs
+part-check-end c = omega arith
 
 address-requires-2 : tie.Need-address-requires-2
 address-requires-2 c κs = tt
@@ -51,7 +51,7 @@ get-requires : tie.Need-get-requires
 get-requires c κs = tt
 
 slice-relend-prefix-check : tie.Need-slice-relend-prefix-check
-slice-relend-prefix-check c = search needs
+slice-relend-prefix-check c = omega arith
 
 slice-aggregate-check-2 : tie.Need-slice-aggregate-check-2
 slice-aggregate-check-2 c = sym (length-take-le _ _ (omega arith))
