@@ -6,22 +6,11 @@ use crate::reading::place_of;
 use crate::sayings;
 use crate::scans::scan;
 use crate::windows::BATCH_DWORDS;
-use crate::windows::LENT;
-use crate::windows::RECORD_WORDS;
 use crate::windows::ROOM;
-use crate::windows::UNWRITTEN;
 use crate::windows::WORDS;
 use crate::windows::ask;
-use crate::windows::get;
 use crate::windows::set;
 use std::num::wrapping_sub_u32;
-
-// go: the answer, and every record word lent.
-fn go(words: &[u32; WORDS]) {
-    let mut records = [UNWRITTEN; LENT];
-    sayings::answer(ask(&mut records, words));
-    sayings::words(&records, get(RECORD_WORDS, words));
-}
 
 // A line has come to its end, with its numbers up to a place. One that begins with no letter that asks is a remark, or only sets numbers.
 fn obey(letter: u8, end: u32, words: &mut [u32; WORDS]) {
@@ -32,7 +21,7 @@ fn obey(letter: u8, end: u32, words: &mut [u32; WORDS]) {
         words,
     );
     if letter == b'g' {
-        go(words);
+        ask(true, words);
     } else {
         scan(letter, words);
     }

@@ -2,7 +2,6 @@
 use crate::reading::pick;
 use crate::sayings;
 use crate::windows::ARGUMENTS;
-use crate::windows::LENT;
 use crate::windows::QUESTION_NUMBERS;
 use crate::windows::ROOM;
 use crate::windows::UNWRITTEN;
@@ -56,7 +55,6 @@ fn value(letter: u8, v: u32, x: u32, stood: u32, words: &[u32; WORDS]) -> u32 {
 // a copy of the words is varied, so that the dword stands as it stood for the lines behind.
 fn ask_each(letter: u8, n: u32, place: u32, stood: u32, words: &[u32; WORDS]) -> u32 {
     let mut varied = *words;
-    let mut records = [UNWRITTEN; LENT];
     let mut before = Answer {
         reason: UNWRITTEN,
         window: 0,
@@ -68,7 +66,7 @@ fn ask_each(letter: u8, n: u32, place: u32, stood: u32, words: &[u32; WORDS]) ->
     while v < n {
         x = value(letter, v, x, stood, words);
         set(place, x, &mut varied);
-        before = sayings::found(x, ask(&mut records, &varied), before);
+        before = sayings::found(x, ask(false, &varied), before);
         v += 1;
     }
     x

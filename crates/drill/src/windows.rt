@@ -1,5 +1,6 @@
 // The words that the lines set: four windows of them in one array, and the one place that asks the checker about them.
 ghost use Prim.Native.Nat.{_≤_};
+use crate::sayings;
 use rules::Answer;
 
 // Room in each window: more dwords than document 01 accepts.
@@ -66,20 +67,29 @@ fn address(place: u32, words: &[u32; WORDS]) -> u64 {
     (high << 32) | low
 }
 
-// Asks the checker about the capture that the words make, with no more lent to it than the capture has.
-pub(crate) fn ask(records: &mut [u32], words: &[u32; WORDS]) -> Answer {
+// Asks the checker about the capture that the words make, with no more lent to it than the capture has. Aloud, the answer is printed, and
+// every record word lent.
+pub(crate) fn ask(aloud: bool, words: &[u32; WORDS]) -> Answer {
     let all: &[u32] = words;
     let room = ROOM as usize;
-    let batch = at_most(room, BATCH_DWORDS, words);
-    let state = room + at_most(room, STATE_DWORDS, words);
-    let lent = at_most(records.len(), RECORD_WORDS, words);
-    walk::check(
-        &all[..batch],
+    let dwords = at_most(room, BATCH_DWORDS, words);
+    let batch = &all[..dwords];
+    let end = room + at_most(room, STATE_DWORDS, words);
+    let state = &all[room..end];
+    let lent = at_most(LENT, RECORD_WORDS, words);
+    let mut records = [UNWRITTEN; LENT];
+    let answer = walk::check(
+        batch,
         address(BATCH_AT, words),
-        &all[room..state],
+        state,
         address(STATE_AT, words),
         address(SCRATCH_AT, words),
         get(SCRATCH_BYTES, words),
         &mut records[..lent],
-    )
+    );
+    if aloud {
+        sayings::answer(answer);
+        sayings::words(&records, get(RECORD_WORDS, words));
+    }
+    answer
 }

@@ -1,30 +1,25 @@
--- `ask_each` is safe and ends: the record buffer keeps its length, and the measure is how many values are left.
+-- `ask_each` is safe and ends: the measure is how many values are left.
 -- Assumes nothing.
-use borrow.Author.Needs.{needs}
 use native.Mathlib.Omega.{arith}
-use lib.ListN.{length, length-replicate}
-use Prim.Native.Nat.{ℕ, _-_}
-use mathlib.Core.Path.{_≡_, sym}
+use borrow.Author.Needs.{needs}
+use Prim.Native.Nat.{_-_}
 use Rattle.drill.proofs.scans.ask_each.Statement.{statement}
 use Rattle.drill.proofs.scans.ask_each.Tie as tie
 
 abbrev Inv-loop : tie.InvT-loop
-Inv-loop letter n place stood words varied₀ records₀ before₀ x₀ v₀ varied records before x v = 65600 ≡ length records
+Inv-loop letter n place stood words varied₀ before₀ x₀ v₀ varied before x v = Unit {0}
 
 abbrev μ-loop : tie.MeasureT-loop
-μ-loop letter n place stood words varied₀ records₀ before₀ x₀ v₀ varied records before x v = n - v
+μ-loop letter n place stood words varied₀ before₀ x₀ v₀ varied before x v = n - v
 
 loop-holds : tie.Need-loop-holds Inv-loop μ-loop
-loop-holds c = sym (length-replicate {A = ℕ} 65600 0xEEEEEEEE)
+loop-holds c = tt
 
 value-requires : tie.Need-value-requires Inv-loop μ-loop
 value-requires c κs = tt
 
 set-requires : tie.Need-set-requires Inv-loop μ-loop
 set-requires c κs = tt
-
-slice-aggregate-ask : tie.Need-slice-aggregate-ask Inv-loop μ-loop
-slice-aggregate-ask c = omega arith
 
 ask-requires : tie.Need-ask-requires Inv-loop μ-loop
 ask-requires c κs = tt
@@ -39,7 +34,7 @@ loop-less : tie.Need-loop-less Inv-loop μ-loop
 loop-less c = omega arith
 
 loop-again : tie.Need-loop-again Inv-loop μ-loop
-loop-again c = omega arith
+loop-again c = tt
 
 returns : tie.Need-returns Inv-loop μ-loop
 returns c = tt
@@ -53,7 +48,6 @@ ask-each-spec =
     loop-holds
     value-requires
     set-requires
-    slice-aggregate-ask
     ask-requires
     found-requires
     add-v

@@ -2,11 +2,24 @@
 -- Assumes nothing.
 use native.Mathlib.Omega.{arith}
 use lib.Seq.{length-take-le}
-use mathlib.Core.Path.{sym}
-use lib.ListN.{length}
+use mathlib.Core.Path.{_≡_, sym, subst}
+use mathlib.Core.List.{List}
+use Prim.Native.Nat.{ℕ, _≤_}
+use lib.ListN.{length, take, replicate, length-replicate}
 use borrow.Author.Needs.{needs}
 use Rattle.drill.proofs.windows.ask.Statement.{statement}
 use Rattle.drill.proofs.windows.ask.Tie as tie
+
+-- Said once, so that no tactic computes a list of 65,600 words.
+unwritten : List ℕ
+unwritten = replicate 65600 0xEEEEEEEE
+
+within : (n : ℕ) → n ≤ 65600 → n ≤ length unwritten
+unfolding unwritten
+within n h = subst (λ (k : ℕ). n ≤ k) (sym (length-replicate {A = ℕ} 65600 0xEEEEEEEE)) h
+
+counted : (n : ℕ) → n ≤ 65600 → n ≡ length (take n unwritten)
+counted n h = sym (length-take-le n unwritten (within n h))
 
 cast-room : tie.Need-cast-room
 cast-room c = search needs
@@ -14,32 +27,32 @@ cast-room c = search needs
 at-most-requires : tie.Need-at-most-requires
 at-most-requires c κs = tt
 
+slice-aggregate-batch : tie.Need-slice-aggregate-batch
+slice-aggregate-batch c = sym (length-take-le _ _ (omega arith))
+
 at-most-requires-2 : tie.Need-at-most-requires-2
 at-most-requires-2 c κs = tt
 
-add-state : tie.Need-add-state
-add-state c = omega arith
+add-end : tie.Need-add-end
+add-end c = omega arith
+
+mul-state : tie.Need-mul-state
+mul-state c = search needs
+
+sub-state : tie.Need-sub-state
+sub-state c = omega arith
+
+part-state-start : tie.Need-part-state-start
+part-state-start c = omega arith
+
+part-state-end : tie.Need-part-state-end
+part-state-end c = omega arith
 
 at-most-requires-3 : tie.Need-at-most-requires-3
 at-most-requires-3 c κs = tt
 
-slice-aggregate-check : tie.Need-slice-aggregate-check
-slice-aggregate-check c = sym (length-take-le _ _ (omega arith))
-
 address-requires : tie.Need-address-requires
 address-requires c κs = tt
-
-mul-check : tie.Need-mul-check
-mul-check c = search needs
-
-sub-check : tie.Need-sub-check
-sub-check c = omega arith
-
-part-check-start : tie.Need-part-check-start
-part-check-start c = omega arith
-
-part-check-end : tie.Need-part-check-end
-part-check-end c = omega arith
 
 address-requires-2 : tie.Need-address-requires-2
 address-requires-2 c κs = tt
@@ -50,20 +63,31 @@ address-requires-3 c κs = tt
 get-requires : tie.Need-get-requires
 get-requires c κs = tt
 
-slice-relend-prefix-check : tie.Need-slice-relend-prefix-check
-slice-relend-prefix-check c = omega arith
+array-borrow-prefix-records : tie.Need-array-borrow-prefix-records
+unfolding unwritten
+array-borrow-prefix-records c = within _ (c .before .before .before .before .at-most3 .ensures)
 
-slice-aggregate-check-2 : tie.Need-slice-aggregate-check-2
-slice-aggregate-check-2 c = sym (length-take-le _ _ (omega arith))
+slice-aggregate-check : tie.Need-slice-aggregate-check
+unfolding unwritten
+slice-aggregate-check c = counted _ (c .before .before .before .before .before .at-most3 .ensures)
 
 check-requires : tie.Need-check-requires
 check-requires c κs = tt
 
-same-length : tie.Need-same-length
-same-length c = search needs
+answer-requires : tie.Need-answer-requires
+answer-requires c κs = tt
+
+get-requires-2 : tie.Need-get-requires-2
+get-requires-2 c κs = tt
+
+words-requires : tie.Need-words-requires
+words-requires c κs = tt
 
 returns : tie.Need-returns
 returns c = tt
+
+returns-2 : tie.Need-returns-2
+returns-2 c = tt
 
 pub ask-spec : {M : Type 1} → statement M
 ask-spec =
@@ -71,20 +95,23 @@ ask-spec =
     (tie.spec
     cast-room
     at-most-requires
+    slice-aggregate-batch
     at-most-requires-2
-    add-state
+    add-end
+    mul-state
+    sub-state
+    part-state-start
+    part-state-end
     at-most-requires-3
-    slice-aggregate-check
     address-requires
-    mul-check
-    sub-check
-    part-check-start
-    part-check-end
     address-requires-2
     address-requires-3
     get-requires
-    slice-relend-prefix-check
-    slice-aggregate-check-2
+    array-borrow-prefix-records
+    slice-aggregate-check
     check-requires
-    same-length
-    returns)
+    answer-requires
+    get-requires-2
+    words-requires
+    returns
+    returns-2)
