@@ -1,5 +1,6 @@
 // Reading a line: its first letter, its hexadecimal numbers, and `[..]n` for what stands n times.
 use crate::windows::ARGUMENTS;
+use crate::windows::END;
 use crate::windows::NUMBERS;
 use crate::windows::RECORD_WORDS;
 use crate::windows::STATE;
@@ -59,7 +60,7 @@ fn repeat(group: u32, next: u32, times: u32, words: &mut [u32; WORDS]) -> u32 {
     if size == 0 {
         return next;
     }
-    while to < ARGUMENTS && wrapping_sub_u32(to, group) / size < times {
+    while to < END && wrapping_sub_u32(to, group) / size < times {
         let x = get(wrapping_sub_u32(to, size), words);
         set(to, x, words);
         to += 1;

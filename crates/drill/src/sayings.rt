@@ -3,7 +3,7 @@ use crate::windows::LENT;
 use libc::STDOUT_FILENO;
 use rules::Answer;
 
-// A single byte: a text would be an array that is made, lent and taken back at each place that says something.
+// One byte. Texts go byte by byte: each would be an array that is made and lent where it is said, and proved to be so.
 pub(crate) fn byte(b: u8) {
     io::write_all(STDOUT_FILENO, &[b]);
 }

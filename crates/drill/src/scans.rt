@@ -13,7 +13,7 @@ use rules::Answer;
 use std::num::wrapping_add_u32;
 use std::num::wrapping_sub_u32;
 
-// Where the numbers of the line stand: the window and the dword, and what the dword is to be.
+// Where the numbers of the line stand: which window and dword, and the values: the first, the step, how many, and the bits that they are cut to.
 const WINDOW: u32 = ARGUMENTS;
 
 const DWORD: u32 = ARGUMENTS + 1;
@@ -72,7 +72,7 @@ fn ask_each(letter: u8, n: u32, place: u32, stood: u32, words: &[u32; WORDS]) ->
     x
 }
 
-// Asks at the values of the dword that the line names.
+// Asks at the values of the dword that the line names, if it asks for any. There are four windows.
 pub(crate) fn scan(letter: u8, words: &[u32; WORDS]) {
     let n = values(letter, words);
     if 0 < n {

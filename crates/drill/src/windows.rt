@@ -3,10 +3,13 @@ ghost use Prim.Native.Nat.{_≤_};
 use crate::sayings;
 use rules::Answer;
 
-// Room in each window: more dwords than document 01 accepts.
+// Room in each window: more dwords than document 01 accepts, and than a line has.
 pub(crate) const ROOM: u32 = 0x2100;
 
-pub(crate) const WORDS: usize = 4 * ROOM as usize;
+// The place behind all windows, and so how many words there are.
+pub(crate) const END: u32 = 4 * ROOM;
+
+pub(crate) const WORDS: usize = END as usize;
 
 // Where the windows begin, behind the batch: the state, the numbers of the capture, and those of the line that asks.
 pub(crate) const STATE: u32 = ROOM;

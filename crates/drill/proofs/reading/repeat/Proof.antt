@@ -10,7 +10,7 @@ abbrev Inv-loop : tie.InvT-loop
 Inv-loop group next times words₀ size to₀ words to = Unit {0}
 
 abbrev μ-loop : tie.MeasureT-loop
-μ-loop group next times words₀ size to₀ words to = 25344 - to
+μ-loop group next times words₀ size to₀ words to = 33792 - to
 
 wrapping-sub-u32-requires : tie.Need-wrapping-sub-u32-requires Inv-loop μ-loop
 wrapping-sub-u32-requires c κs = tt
