@@ -20,11 +20,11 @@ const INPUT_BYTES: usize = 0x2_0000;
 // Obeys each line of the input in turn. What a line sets stays for those behind it.
 fn main() {
     let mut words = [0u32; WORDS];
-    let mut r = begun(b'\n');
+    let mut line = begun(b'\n');
     let mut byte = [0u8; 1];
     let mut i = 0;
     while i < INPUT_BYTES && io::read_full(STDIN_FILENO, &mut byte) == 1 {
-        r = take(r, byte[0], &mut words);
+        line = take(line, byte[0], &mut words);
         i += 1;
     }
 }
