@@ -1,60 +1,42 @@
 // What each line asks for. Its first letter decides.
-use crate::file::file;
-use crate::reading::pick;
-use crate::reading::read;
+use crate::reading::Reading;
+use crate::reading::begun;
+use crate::reading::feed;
+use crate::reading::place_of;
 use crate::sayings;
 use crate::scans::scan;
-use crate::scans::values;
-use crate::windows::ARGUMENTS;
 use crate::windows::BATCH_DWORDS;
-use crate::windows::LENT;
-use crate::windows::NUMBERS;
-use crate::windows::RECORD_WORDS;
-use crate::windows::UNWRITTEN;
+use crate::windows::ROOM;
 use crate::windows::WORDS;
-use crate::windows::ask_into;
-use crate::windows::at_most;
-use crate::windows::get;
+use crate::windows::ask;
 use crate::windows::set;
+use std::num::wrapping_sub_u32;
 
-// The window that a line's numbers go into.
-fn window_of(letter: u8) -> u32 {
-    match letter {
-        b'b' => 0,
-        b's' => 1,
-        b'w' => NUMBERS,
-        b'r' => NUMBERS,
-        _ => ARGUMENTS,
+// A line has come to its end, with its numbers up to a place. One that begins with no letter that asks is a remark, or only sets numbers.
+fn obey(letter: u8, end: u32, words: &mut [u32; WORDS]) {
+    let start = place_of(letter);
+    set(
+        BATCH_DWORDS | (start / ROOM),
+        wrapping_sub_u32(end, start),
+        words,
+    );
+    if letter == b'g' {
+        ask(true, words);
+    } else {
+        scan(letter, words);
     }
 }
 
-// go: the answer, and every record word lent.
-fn go(words: &[u32; WORDS]) {
-    let mut records = [UNWRITTEN; LENT];
-    sayings::answer(ask_into(&mut records, words));
-    sayings::words(&records, at_most(get(NUMBERS, RECORD_WORDS, words), LENT));
-}
-
-// The lines that ask. A line that begins with no letter of these is a remark.
-fn question(letter: u8, words: &mut [u32; WORDS]) {
-    match letter {
-        b'g' => go(words),
-        b'f' => file(words),
-        _ => {
-            let n = values(letter, words);
-            if 0 < n {
-                scan(letter, n, words);
-            }
-        }
+// One byte more of the input, behind what has been read of its line. The line is echoed as it is read: what it asks for is printed under it.
+pub(crate) fn take(r: Reading, byte: u8, words: &mut [u32; WORDS]) -> Reading {
+    sayings::byte(byte);
+    if r.letter == b'\n' {
+        return begun(byte);
     }
-}
-
-// Obeys one line, which begins with this letter.
-pub(crate) fn obey(letter: u8, line: &[u8], words: &mut [u32; WORDS]) {
-    sayings::text(line);
-    let window = window_of(letter);
-    let from = pick(letter == b'r', RECORD_WORDS, 0);
-    let n = read(line, window, from, words);
-    set(NUMBERS, BATCH_DWORDS | window, n, words);
-    question(letter, words);
+    let s = feed(r, byte, words);
+    if byte != b'\n' {
+        return s;
+    }
+    obey(s.letter, s.next, words);
+    begun(byte)
 }

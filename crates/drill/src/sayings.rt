@@ -1,20 +1,20 @@
 // What the program prints: answers in decimal, as document 01's printout has them, and everything else in hexadecimal.
-ghost use Prim.Native.Nat.{_≤_};
 use crate::windows::LENT;
 use libc::STDOUT_FILENO;
 use rules::Answer;
 
-pub(crate) fn text(s: &[u8]) {
-    io::write_all(STDOUT_FILENO, s);
+// One byte. Texts go byte by byte: each would be an array that is made and lent where it is said, and proved to be so.
+pub(crate) fn byte(b: u8) {
+    io::write_all(STDOUT_FILENO, &[b]);
 }
 
-pub(crate) fn hex(n: u64) {
-    text(b" ");
-    io::print_hex(STDOUT_FILENO, n, 1);
+fn hex(n: u32) {
+    byte(b' ');
+    io::print_hex(STDOUT_FILENO, n as u64, 1);
 }
 
 fn decimal(n: u32) {
-    text(b" ");
+    byte(b' ');
     io::print_decimal(STDOUT_FILENO, n as u64);
 }
 
@@ -24,45 +24,45 @@ pub(crate) fn answer(a: Answer) {
     decimal(a.window);
     decimal(a.index);
     decimal(a.count);
-    text(b";");
+    byte(b';');
 }
 
-// The answer from a value on, unless it is the one before it.
-pub(crate) fn found(x: u32, a: Answer, before: Answer) {
+// The answer from a value on, unless it is the one before it. Answers what comes before the next.
+pub(crate) fn found(x: u32, a: Answer, before: Answer) -> Answer {
     let same_place = (a.window == before.window) & (a.index == before.index);
     if !((a.reason == before.reason) & same_place & (a.count == before.count)) {
-        hex(x as u64);
+        hex(x);
         answer(a);
     }
+    a
 }
 
 // The last value or place of a line.
-pub(crate) fn last(n: u64) {
-    text(b" to");
+pub(crate) fn last(n: u32) {
+    byte(b' ');
+    byte(b't');
+    byte(b'o');
     hex(n);
-    text(b"\n");
+    byte(b'\n');
 }
 
 // A word from its place on, unless it is the one before it. Answers what comes before the next.
-fn word(i: u64, x: u32, before: u64) -> u64 {
-    let now = x as u64;
-    if now != before {
+fn word(i: u32, x: u32, before: u64) -> u64 {
+    if x as u64 != before {
         hex(i);
-        hex(now);
-        text(b";");
+        hex(x);
+        byte(b';');
     }
-    now
+    x as u64
 }
 
 // The first n words of a buffer, those that are alike together. No word comes before the first.
-pub(crate) fn words(all: &[u32; LENT], n: usize)
-    requires { ⌜ n ≤ 65600 ⌝ }
-{
+pub(crate) fn words(all: &[u32; LENT], n: u32) {
     let mut before: u64 = 0x1_0000_0000;
-    let mut i = 0;
-    while i < n {
-        before = word(i as u64, all[i], before);
+    let mut i: u32 = 0;
+    while i < n && i < LENT as u32 {
+        before = word(i, all[i as usize], before);
         i += 1;
     }
-    last(n as u64);
+    last(n);
 }

@@ -2,8 +2,8 @@
 use crate::reading::pick;
 use crate::sayings;
 use crate::windows::ARGUMENTS;
-use crate::windows::NUMBERS;
 use crate::windows::QUESTION_NUMBERS;
+use crate::windows::ROOM;
 use crate::windows::UNWRITTEN;
 use crate::windows::WORDS;
 use crate::windows::ask;
@@ -13,14 +13,26 @@ use rules::Answer;
 use std::num::wrapping_add_u32;
 use std::num::wrapping_sub_u32;
 
+// Where the numbers of the line stand: which window and dword, and the values: the first, the step, how many, and the bits that they are cut to.
+const WINDOW: u32 = ARGUMENTS;
+
+const DWORD: u32 = ARGUMENTS + 1;
+
+const FIRST: u32 = ARGUMENTS + 2;
+
+const STEP: u32 = ARGUMENTS + 3;
+
+const MANY: u32 = ARGUMENTS + 4;
+
+const MASK: u32 = ARGUMENTS + 5;
+
 // How many values a line asks for, by its letter. A line with another letter asks for none.
-pub(crate) fn values(letter: u8, words: &[u32; WORDS]) -> u32 {
+fn values(letter: u8, words: &[u32; WORDS]) -> u32 {
     match letter {
         b'a' => 33,
         b't' => 32,
-        b'l' => wrapping_sub_u32(get(NUMBERS, QUESTION_NUMBERS, words), 2),
-        b'v' => get(ARGUMENTS, 4, words),
-        b'm' => get(ARGUMENTS, 4, words),
+        b'l' => wrapping_sub_u32(get(QUESTION_NUMBERS, words), 2),
+        b'v' | b'm' => get(MANY, words),
         _ => 0,
     }
 }
@@ -28,55 +40,44 @@ pub(crate) fn values(letter: u8, words: &[u32; WORDS]) -> u32 {
 // Value v, by the line's letter: from the value x before it, or from the dword as it stood.
 fn value(letter: u8, v: u32, x: u32, stood: u32, words: &[u32; WORDS]) -> u32 {
     let bit = 1u32 << (v % 32);
-    let named = get(ARGUMENTS, 2, words);
-    let next = wrapping_add_u32(x, get(ARGUMENTS, 3, words));
+    let named = get(FIRST, words);
+    let next = wrapping_add_u32(x, get(STEP, words));
     match letter {
         b'a' => pick(v < 32, bit, named),
         b't' => stood ^ bit,
-        b'l' => get(ARGUMENTS, wrapping_add_u32(v, 2), words),
-        b'm' => pick(v == 0, named, next & get(ARGUMENTS, 5, words)),
+        b'l' => get(wrapping_add_u32(FIRST, v), words),
+        b'm' => pick(v == 0, named, next & get(MASK, words)),
         _ => pick(v == 0, named, next),
     }
 }
 
-// Asks at value v of a dword, and answers what it was told. The value before it stands in the dword.
-fn step(
-    letter: u8,
-    v: u32,
-    window: u32,
-    i: u32,
-    stood: u32,
-    last: Answer,
-    words: &mut [u32; WORDS],
-) -> Answer {
-    let x = value(letter, v, get(window, i, words), stood, words);
-    set(window, i, x, words);
-    let a = ask(words);
-    sayings::found(x, a, last);
-    a
-}
-
-// Asks at each of n values. No answer comes before the first.
-fn steps(letter: u8, n: u32, window: u32, i: u32, stood: u32, words: &mut [u32; WORDS]) {
-    let mut last = Answer {
+// Asks at each of n values of the word at a place, which stood so, and answers the last of them. No answer comes before the first. Only
+// a copy of the words is varied, so that the dword stands as it stood for the lines behind.
+fn ask_each(letter: u8, n: u32, place: u32, stood: u32, words: &[u32; WORDS]) -> u32 {
+    let mut varied = *words;
+    let mut before = Answer {
         reason: UNWRITTEN,
         window: 0,
         index: 0,
         count: 0,
     };
+    let mut x = stood;
     let mut v = 0;
     while v < n {
-        last = step(letter, v, window, i, stood, last, words);
+        x = value(letter, v, x, stood, words);
+        set(place, x, &mut varied);
+        before = sayings::found(x, ask(false, &varied), before);
         v += 1;
     }
+    x
 }
 
-// The n values of the dword that the line names, and behind them the last one. The dword stands as it stood.
-pub(crate) fn scan(letter: u8, n: u32, words: &mut [u32; WORDS]) {
-    let window = get(ARGUMENTS, 0, words);
-    let i = get(ARGUMENTS, 1, words);
-    let stood = get(window, i, words);
-    steps(letter, n, window, i, stood, words);
-    sayings::last(get(window, i, words) as u64);
-    set(window, i, stood, words);
+// Asks at the values of the dword that the line names, if it asks for any. There are four windows.
+pub(crate) fn scan(letter: u8, words: &[u32; WORDS]) {
+    let n = values(letter, words);
+    if 0 < n {
+        let window = get(WINDOW, words) % 4;
+        let place = wrapping_add_u32(window * ROOM, get(DWORD, words));
+        sayings::last(ask_each(letter, n, place, get(place, words), words));
+    }
 }

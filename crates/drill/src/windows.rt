@@ -1,104 +1,98 @@
 // The words that the lines set: four windows of them in one array, and the one place that asks the checker about them.
 ghost use Prim.Native.Nat.{_≤_};
+use crate::sayings;
 use rules::Answer;
 
-// Room in each window: more dwords than document 01 accepts, and than its longest file has.
+// Room in each window: more dwords than document 01 accepts, and than a line has.
 pub(crate) const ROOM: u32 = 0x2100;
 
-pub(crate) const WORDS: usize = 4 * ROOM as usize;
+// The place behind all windows, and so how many words there are.
+pub(crate) const END: u32 = 4 * ROOM;
 
-// Behind the batch (0) and the state (1): the numbers of the capture, and those of the line that asks.
-pub(crate) const NUMBERS: u32 = 2;
+pub(crate) const WORDS: usize = END as usize;
 
-pub(crate) const ARGUMENTS: u32 = 3;
+// Where the windows begin, behind the batch: the state, the numbers of the capture, and those of the line that asks.
+pub(crate) const STATE: u32 = ROOM;
+
+pub(crate) const NUMBERS: u32 = 2 * ROOM;
+
+pub(crate) const ARGUMENTS: u32 = 3 * ROOM;
 
 // Where the numbers of the capture stand. Each address is two dwords, the lower one first.
-const BATCH_AT: u32 = 0;
+const BATCH_AT: u32 = NUMBERS;
 
-const STATE_AT: u32 = 2;
+const STATE_AT: u32 = NUMBERS + 2;
 
-const SCRATCH_AT: u32 = 4;
+const SCRATCH_AT: u32 = NUMBERS + 4;
 
-const SCRATCH_BYTES: u32 = 6;
+const SCRATCH_BYTES: u32 = NUMBERS + 6;
 
-pub(crate) const RECORD_WORDS: u32 = 7;
+pub(crate) const RECORD_WORDS: u32 = NUMBERS + 7;
 
-// How many numbers stand in each window.
-pub(crate) const BATCH_DWORDS: u32 = 8;
+// How many numbers stand in each window, from the batch on.
+pub(crate) const BATCH_DWORDS: u32 = NUMBERS + 8;
 
-const STATE_DWORDS: u32 = 9;
+const STATE_DWORDS: u32 = NUMBERS + 9;
 
-pub(crate) const QUESTION_NUMBERS: u32 = 11;
+pub(crate) const QUESTION_NUMBERS: u32 = NUMBERS + 11;
 
-// Words enough for the records of a run of 65,536 commands, and for what is read of a file.
+// Words enough for the records of a run of 65,536 commands.
 pub(crate) const LENT: usize = 65600;
 
-// A lent word that nobody has written: no record and no dword of the lines is like it.
+// A record word that nobody has written: no record is like it.
 pub(crate) const UNWRITTEN: u32 = 0xEEEE_EEEE;
 
-// Where a word of a window stands. One that is out of room stands nowhere.
-fn place(window: u32, i: u32) -> usize {
-    if window < 4 && i < ROOM {
-        window as usize * ROOM as usize + i as usize
-    } else {
-        WORDS
-    }
-}
-
-pub(crate) fn get(window: u32, i: u32, words: &[u32; WORDS]) -> u32 {
-    let p = place(window, i);
+// The word at a place. There is 0 where no word stands.
+pub(crate) fn get(place: u32, words: &[u32; WORDS]) -> u32 {
+    let p = place as usize;
     if p < WORDS { words[p] } else { 0 }
 }
 
-pub(crate) fn set(window: u32, i: u32, x: u32, words: &mut [u32; WORDS]) {
-    let p = place(window, i);
+pub(crate) fn set(place: u32, x: u32, words: &mut [u32; WORDS]) {
+    let p = place as usize;
     if p < WORDS {
         words[p] = x;
     }
 }
 
-pub(crate) fn at_most(n: u32, limit: usize) -> usize
+// The number at a place, or the limit where it is above that.
+fn at_most(limit: usize, place: u32, words: &[u32; WORDS]) -> usize
     ensures { λ r. ⌜ r ≤ limit ⌝ }
 {
-    if (n as usize) < limit {
-        n as usize
-    } else {
-        limit
-    }
+    let n = get(place, words) as usize;
+    if n < limit { n } else { limit }
 }
 
-// A number of the capture.
-fn number(i: u32, words: &[u32]) -> u32 {
-    let p = place(NUMBERS, i);
-    if p < words.len() { words[p] } else { 0 }
-}
-
-// The address whose lower dword is this number of the capture.
-fn address(i: u32, words: &[u32]) -> u64 {
-    let low = number(i, words) as u64;
-    let high = number(i | 1, words) as u64;
+// The address whose lower dword stands at an even place.
+fn address(place: u32, words: &[u32; WORDS]) -> u64 {
+    let low = get(place, words) as u64;
+    let high = get(place | 1, words) as u64;
     (high << 32) | low
 }
 
-// Asks the checker about the capture that the words make, with no more lent to it than the capture has.
-pub(crate) fn ask_into(records: &mut [u32], words: &[u32]) -> Answer {
-    let room = words.len() / 4;
-    let batch = at_most(number(BATCH_DWORDS, words), room);
-    let state = room + at_most(number(STATE_DWORDS, words), room);
-    let lent = at_most(number(RECORD_WORDS, words), records.len());
-    walk::check(
-        &words[..batch],
+// Asks the checker about the capture that the words make, with no more lent to it than the capture has. Aloud, the answer is printed, and
+// every record word lent.
+pub(crate) fn ask(aloud: bool, words: &[u32; WORDS]) -> Answer {
+    let all: &[u32] = words;
+    let room = ROOM as usize;
+    let dwords = at_most(room, BATCH_DWORDS, words);
+    let batch = &all[..dwords];
+    let end = room + at_most(room, STATE_DWORDS, words);
+    let state = &all[room..end];
+    let lent = at_most(LENT, RECORD_WORDS, words);
+    let mut records = [UNWRITTEN; LENT];
+    let answer = walk::check(
+        batch,
         address(BATCH_AT, words),
-        &words[room..state],
+        state,
         address(STATE_AT, words),
         address(SCRATCH_AT, words),
-        number(SCRATCH_BYTES, words),
+        get(SCRATCH_BYTES, words),
         &mut records[..lent],
-    )
-}
-
-// Asks for the answer alone.
-pub(crate) fn ask(words: &[u32; WORDS]) -> Answer {
-    let mut records = [UNWRITTEN; LENT];
-    ask_into(&mut records, words)
+    );
+    if aloud {
+        sayings::answer(answer);
+        sayings::words(&records, get(RECORD_WORDS, words));
+    }
+    answer
 }

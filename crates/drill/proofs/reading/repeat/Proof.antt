@@ -1,15 +1,16 @@
 -- `repeat` is safe and ends: the measure is what is left of the room.
 -- Assumes nothing.
-use Prim.Native.Nat.{_-_}
 use borrow.Author.Needs.{needs}
+use native.Mathlib.Omega.{arith}
+use Prim.Native.Nat.{_-_}
 use Rattle.drill.proofs.reading.repeat.Statement.{statement}
 use Rattle.drill.proofs.reading.repeat.Tie as tie
 
 abbrev Inv-loop : tie.InvT-loop
-Inv-loop window group next times words₀ size to₀ words to = Unit {0}
+Inv-loop group next times words₀ size to₀ words to = Unit {0}
 
 abbrev μ-loop : tie.MeasureT-loop
-μ-loop window group next times words₀ size to₀ words to = 8448 - to
+μ-loop group next times words₀ size to₀ words to = 33792 - to
 
 wrapping-sub-u32-requires : tie.Need-wrapping-sub-u32-requires Inv-loop μ-loop
 wrapping-sub-u32-requires c κs = tt
@@ -39,7 +40,7 @@ add-to : tie.Need-add-to Inv-loop μ-loop
 add-to c = search needs
 
 loop-less : tie.Need-loop-less Inv-loop μ-loop
-loop-less c = search needs
+loop-less c = omega arith
 
 loop-again : tie.Need-loop-again Inv-loop μ-loop
 loop-again c = tt

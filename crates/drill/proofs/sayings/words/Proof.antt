@@ -1,7 +1,8 @@
 -- `words` is safe and ends: the measure is how many words are left.
 -- Assumes nothing.
-use Prim.Native.Nat.{_-_}
 use borrow.Author.Needs.{needs}
+use native.Mathlib.Omega.{arith}
+use Prim.Native.Nat.{_-_}
 use Rattle.drill.proofs.sayings.words.Statement.{statement}
 use Rattle.drill.proofs.sayings.words.Tie as tie
 
@@ -13,6 +14,12 @@ abbrev μ-loop : tie.MeasureT-loop
 
 loop-holds : tie.Need-loop-holds Inv-loop μ-loop
 loop-holds c = tt
+
+cast-if1 : tie.Need-cast-if1 Inv-loop μ-loop
+cast-if1 c = search needs
+
+cast-word : tie.Need-cast-word Inv-loop μ-loop
+cast-word c = search needs
 
 mul-word : tie.Need-mul-word Inv-loop μ-loop
 mul-word c = search needs
@@ -27,7 +34,7 @@ add-i : tie.Need-add-i Inv-loop μ-loop
 add-i c = search needs
 
 loop-less : tie.Need-loop-less Inv-loop μ-loop
-loop-less c = search needs
+loop-less c = omega arith
 
 loop-again : tie.Need-loop-again Inv-loop μ-loop
 loop-again c = tt
@@ -45,6 +52,8 @@ words-spec =
     Inv-loop
     μ-loop
     loop-holds
+    cast-if1
+    cast-word
     mul-word
     element-copy-out-word
     word-requires
