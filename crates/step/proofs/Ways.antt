@@ -27,7 +27,8 @@ use Rattle.rules.specs.Step.{Here, here, headerAt, rowAt, lengthAt, dwordsAt, p
 use Rattle.rules.proofs.Searching.{or-cases}
 use Rattle.rules.proofs.Tables.{each, at-each, rows-counted}
 use Rattle.rules.proofs.Stepping.{moveAt, takes, refuses}
-use Rattle.step.specs.Parts.{captured, Fitted, orElse, contentOf, structuralOf, moveFrom}
+use Rattle.onward.specs.Onward.{moveFrom}
+use Rattle.step.specs.Parts.{captured, Fitted, orElse, contentOf, structuralOf}
 use Rattle.step.proofs.Contents.{tried-or}
 
 -- the numbers of the windows are those of the capture

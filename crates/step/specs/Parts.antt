@@ -1,17 +1,12 @@
--- One step in the parts that the code has: what the command's own dwords give (10 to 13), what its structure gives (14 to 17), and the move.
-use Prim.Native.Nat.{ℕ, _-_, _*_, _/_, _^_, _<_}
+-- One step in the parts that the code has: what the command's own dwords give (10 to 13), and what its structure gives (14 to 17).
+use Prim.Native.Nat.{ℕ, _*_, _^_, _<_}
 use mathlib.Core.Path.{_≡_}
-use mathlib.Core.Bool.{cond}
 use mathlib.Core.List.{List}
-use lib.ListN.{length, getD}
-use lib.Dec.{eqb}
+use lib.ListN.{length}
 use Rattle.rules.specs.declared.Windows.{Windows}
 use Rattle.rules.specs.declared.Level.{Level}
 use Rattle.rules.specs.declared.Base.{Base}
 use Rattle.rules.specs.declared.Base.the-variants.{Set}
-use Rattle.rules.specs.declared.Cursor.{Cursor}
-use Rattle.rules.specs.declared.After.{After}
-use Rattle.rules.specs.declared.After.the-variants.{To}
 use Rattle.rules.specs.declared.Pointer.{Pointer}
 use Rattle.rules.specs.declared.Verdict.{Verdict}
 use Rattle.rules.specs.declared.Verdict.the-variants.{Pass, Fails}
@@ -21,9 +16,9 @@ use Rattle.rules.specs.Refusals.{inBatch, fault, refuseIf, refuseFound}
 use Rattle.rules.specs.Windows.{Capture}
 use Rattle.rules.specs.Commands.{bitWrong}
 use Rattle.rules.specs.Values.{valueWrong}
-use Rattle.rules.specs.Addresses.{addressAt, rangeWrong}
+use Rattle.rules.specs.Addresses.{rangeWrong}
 use Rattle.rules.specs.Structures.{structureNowhere, structureBit, structureValue}
-use Rattle.rules.specs.Step.{endRow, startRow, nested, baseMissing, pointed, cursor, afterEnd, levelAfterStart, baseAfter}
+use Rattle.rules.specs.Step.{nested, baseMissing, pointed}
 
 -- the capture that the windows' numbers and the two lent windows are
 abbrev pub captured : Windows → List ℕ → List ℕ → Capture
@@ -63,10 +58,3 @@ structuralOf c pointer p base =
 -- a base that row 9 can set, or none
 pub record SmallBase (base : Base) : Type 0 where
   pub small : (b : ℕ) → base ≡ Set b → b < 2 ^ 48
-
--- the move, of the batch window's address alone
-unfoldable pub moveFrom : ℕ → Cursor → ℕ → List ℕ → ℕ → After
-moveFrom at s r d next =
-    cond (eqb r endRow) (afterEnd (s .level) (s .base))
-    (cond (eqb r startRow) (To (cursor ((addressAt d 1 - at) / 4) (levelAfterStart (getD d 0 0) next (s .level)) (s .base)))
-    (To (cursor next (s .level) (baseAfter r d (s .base)))))

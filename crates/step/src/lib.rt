@@ -11,8 +11,8 @@ use faults::pointer_of;
 use faults::structure_fault;
 use looks::Look;
 use looks::looked;
-use moves::level_number;
-use moves::move_of;
+use onward::level_number;
+use onward::move_of;
 use rows::row_of;
 use rules::Command;
 use rules::Cursor;
@@ -24,7 +24,6 @@ use rules::Windows;
 
 mod faults;
 pub mod looks;
-mod moves;
 
 // A refusal at the header.
 fn refused(reason: Reason, index: usize) -> Outcome

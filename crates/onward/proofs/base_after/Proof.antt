@@ -1,11 +1,11 @@
--- `step::moves::base_after` meets its contract: the tests of the code are those of the definition.
+-- `onward::base_after` meets its contract: the tests of the code are those of the definition.
 -- Assumes nothing.
 use native.Mathlib.Nat.{div-one}
 use Rattle.rules.specs.Step.{baseAfter}
 use borrow.Author.Tests.{eq-eqb, ne-eqb}
 use borrow.Author.Needs.{needs}
-use Rattle.step.proofs.moves.base_after.Statement.{statement}
-use Rattle.step.proofs.moves.base_after.Tie as tie
+use Rattle.onward.proofs.base_after.Statement.{statement}
+use Rattle.onward.proofs.base_after.Tie as tie
 
 returns : tie.Need-returns
 unfolding baseAfter

@@ -1,9 +1,9 @@
--- `step::moves::after_end` meets its contract, by the level.
+-- `onward::after_end` meets its contract, by the level.
 -- Assumes nothing.
 use Rattle.rules.specs.Step.{afterEnd}
 use borrow.Author.Needs.{needs}
-use Rattle.step.proofs.moves.after_end.Statement.{statement}
-use Rattle.step.proofs.moves.after_end.Tie as tie
+use Rattle.onward.proofs.after_end.Statement.{statement}
+use Rattle.onward.proofs.after_end.Tie as tie
 
 enum-told : tie.Need-enum-told
 enum-told c = search needs

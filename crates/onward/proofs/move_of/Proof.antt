@@ -1,10 +1,10 @@
--- `step::moves::move_of` meets its contract: an end, a start, and all others.
+-- `onward::move_of` meets its contract: an end, a start, and all others.
 -- Assumes nothing.
-use Rattle.step.specs.Parts.{moveFrom}
+use Rattle.onward.specs.Onward.{moveFrom}
 use borrow.Author.Tests.{eq-eqb, ne-eqb}
 use borrow.Author.Needs.{needs}
-use Rattle.step.proofs.moves.move_of.Statement.{statement}
-use Rattle.step.proofs.moves.move_of.Tie as tie
+use Rattle.onward.proofs.move_of.Statement.{statement}
+use Rattle.onward.proofs.move_of.Tie as tie
 
 after-end-requires : tie.Need-after-end-requires
 after-end-requires c κs = search needs

@@ -3,13 +3,12 @@ ghost use mathlib.Core.Path.{_≡_};
 ghost use Prim.Native.Nat.{_-_, _/_};
 ghost use Rattle.rules.specs.Addresses.{addressAt};
 ghost use Rattle.rules.specs.Step.{afterEnd, levelAfterStart, baseAfter, levelNumber};
-ghost use Rattle.step.specs.Parts.{moveFrom};
+ghost use Rattle.onward.specs.Onward.{moveFrom};
 use commands::dwords::dword;
 use rules::After;
 use rules::Base;
 use rules::Cursor;
 use rules::Level;
-use rules::Windows;
 
 pub fn level_number(level: Level) -> usize
     ensures { λ r. ⌜ r ≡ levelNumber level ⌝ }

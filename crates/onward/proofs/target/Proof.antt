@@ -1,9 +1,9 @@
--- `step::moves::target` meets its contract: two dwords make the address.
+-- `onward::target` meets its contract: two dwords make the address.
 -- Assumes nothing.
 use Rattle.rules.specs.Addresses.{addressAt}
 use borrow.Author.Needs.{needs}
-use Rattle.step.proofs.moves.target.Statement.{statement}
-use Rattle.step.proofs.moves.target.Tie as tie
+use Rattle.onward.proofs.target.Statement.{statement}
+use Rattle.onward.proofs.target.Tie as tie
 
 dword-requires : tie.Need-dword-requires
 dword-requires c κs = search needs

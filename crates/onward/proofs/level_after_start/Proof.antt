@@ -1,8 +1,8 @@
--- `step::moves::level_after_start` meets its contract: the test is the bit.
+-- `onward::level_after_start` meets its contract: the test is the bit.
 -- Assumes nothing.
 use borrow.Author.Tests.{eq-eqb, ne-eqb}
-use Rattle.step.proofs.moves.level_after_start.Statement.{statement}
-use Rattle.step.proofs.moves.level_after_start.Tie as tie
+use Rattle.onward.proofs.level_after_start.Statement.{statement}
+use Rattle.onward.proofs.level_after_start.Tie as tie
 
 returns : tie.Need-returns
 returns c = simp (eq-eqb _ _ (c .if1 .taken))
