@@ -2,40 +2,30 @@
 use Prim.Native.Nat.{ℕ, _^_, _<_}
 use mathlib.Core.Path.{_≡_}
 use mathlib.Core.List.{List}
-use lib.ListN.{length}
+use lib.ListN.{length, getD}
 use Rattle.rules.specs.declared.Contents.{Contents}
 use Rattle.rules.specs.declared.Opened.{Opened}
 use Rattle.rules.specs.declared.Opened.the-variants.{Holds, NotRead}
-use Rattle.rules.specs.Refusals.{numberOf}
-use Rattle.rules.specs.File.{openedOf, filledBy, batchDwords, stateDwords}
+use Rattle.rules.specs.Refusals.{Told}
+use Rattle.rules.specs.File.{openedOf, openedTold, filledBy, batchDwords, stateDwords}
 use Rattle.api.specs.declared.FileContents.{FileContents}
 
--- a refusal is its number, all else 0; contents are what the trailer says, the reason 0
+-- what the reader's answer tells, number, place and values, as the fields of a struct; a value that is not told, on a refusal, is 0
 unfoldable pub flatOf : Opened → FileContents
-flatOf (NotRead reason) = record {
-  reason = numberOf reason;
-  window = 0;
-  index = 0;
-  count = 0;
-  «batch_count» = 0;
-  «state_count» = 0;
-  «scratch_len» = 0;
-  «batch_at» = 0;
-  «state_at» = 0;
-  «scratch_at» = 0;
-}
-flatOf (Holds contents) = record {
-  reason = 0;
-  window = 0;
-  index = 0;
-  count = 0;
-  «batch_count» = contents .batch .count;
-  «state_count» = contents .state .count;
-  «scratch_len» = contents .scratch .bytes;
-  «batch_at» = contents .batch .at;
-  «state_at» = contents .state .at;
-  «scratch_at» = contents .scratch .at;
-}
+flatOf opened =
+    let t : Told ℕ = openedTold opened in
+    record {
+      reason = t .answer .reason;
+      window = t .answer .window;
+      index = t .answer .index;
+      count = t .answer .count;
+      «batch_at» = getD (t .values) 0 0;
+      «state_at» = getD (t .values) 1 0;
+      «scratch_at» = getD (t .values) 2 0;
+      «scratch_len» = getD (t .values) 3 0;
+      «batch_count» = getD (t .values) 4 0;
+      «state_count» = getD (t .values) 5 0;
+    }
 
 -- the numbers of a file fit 32 bits
 pub record SmallContents (contents : Contents) : Type 0 where

@@ -21,10 +21,10 @@ use Rattle.rules.specs.declared.Outcome.{Outcome}
 use Rattle.rules.specs.declared.Outcome.the-variants.{Taken, Refused}
 use Rattle.rules.specs.declared.Reason.the-variants.{BudgetSpent}
 use Rattle.rules.specs.declared.Verdict.the-variants.{Pass, Fails}
-use Rattle.rules.specs.Refusals.{inBatch, fault, numberOf}
+use Rattle.rules.specs.Refusals.{inBatch, fault, numberOf, answerWith}
 use Rattle.rules.specs.Windows.{Capture, lengthsOf, windowFault}
 use Rattle.rules.specs.Step.{budget, cursor, stepOf}
-use Rattle.rules.specs.Walk.{Run, ended, then, trace, traceFrom, cut, start, walk, Leads, stays, onward, commandsOf, endOf, answerWith, answerOf}
+use Rattle.rules.specs.Walk.{Run, ended, then, trace, traceFrom, cut, start, walk, Leads, stays, onward, commandsOf, endOf, answerOf}
 use Rattle.rules.specs.Cases.{captureOf}
 use Rattle.rules.specs.Book.{book}
 use Rattle.rules.proofs.Searching.{and-left, and-right, never-both}

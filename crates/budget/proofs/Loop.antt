@@ -12,10 +12,10 @@ use Rattle.rules.specs.declared.Command.{Command}
 use Rattle.rules.specs.declared.After.the-variants.{To}
 use Rattle.rules.specs.declared.Outcome.the-variants.{Taken}
 use Rattle.rules.specs.declared.Verdict.the-variants.{Pass, Fails}
-use Rattle.rules.specs.Refusals.{inBatch, fault, numberOf}
+use Rattle.rules.specs.Refusals.{inBatch, fault, numberOf, answerWith}
 use Rattle.rules.specs.Windows.{Capture, lengthsOf, windowFault}
 use Rattle.rules.specs.Step.{budget, stepOf}
-use Rattle.rules.specs.Walk.{Run, ended, trace, traceFrom, cut, start, walk, Leads, stays, onward, commandsOf, endOf, answerWith, answerOf}
+use Rattle.rules.specs.Walk.{Run, ended, trace, traceFrom, cut, start, walk, Leads, stays, onward, commandsOf, endOf, answerOf}
 use Rattle.rules.specs.Records.{recordOf, wordsOf, writtenOf}
 use Rattle.rules.specs.Cases.{captureOf}
 use Rattle.rules.specs.Book.{book}

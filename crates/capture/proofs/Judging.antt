@@ -5,13 +5,15 @@ use mathlib.Core.Path.{_≡_, sym, ap, _∙_}
 use mathlib.Core.List.{List}
 use lib.ListN.{take, length}
 use Rattle.rules.specs.declared.Answer.{Answer}
+use Rattle.rules.specs.declared.Base.{Base}
 use Rattle.rules.specs.declared.Contents.{Contents}
 use Rattle.rules.specs.declared.Opened.{Opened}
 use Rattle.rules.specs.declared.Opened.the-variants.{Holds, NotRead}
 use Rattle.rules.specs.declared.Reason.{Reason}
+use Rattle.rules.specs.Refusals.{told}
 use Rattle.rules.specs.Walk.{answerOf, commandsOf, endOf}
 use Rattle.rules.specs.Records.{Checked, wordsOf, writtenOf}
-use Rattle.rules.specs.File.{trailerOf, captureOf, openedVerdict, openedAnswer, fileRun, FileRead, Judged}
+use Rattle.rules.specs.File.{trailerOf, captureOf, openedVerdict, openedTold, fileRun, FileRead, Judged}
 use Rattle.walk.specs.Lent as lent
 use Rattle.capture.proofs.Reading.{held, parts}
 
@@ -20,9 +22,9 @@ module _ {file batch state newBatch newState : List ℕ} where
   pub known : {opened opened′ : Opened} → FileRead file batch state opened newBatch newState → opened ≡ opened′ → FileRead file batch state opened′ newBatch newState
   known f e = rw e at f
 
-  pub not-read : {records : List ℕ} {reason : Reason} {answer : Answer} → FileRead file batch state (NotRead reason) newBatch newState → answer ≡ openedAnswer (NotRead reason)
-      → Judged file batch state records answer newBatch newState records
-  unfolding fileRun openedVerdict answerOf endOf commandsOf writtenOf wordsOf
+  pub not-read : {base : Base} {records : List ℕ} {reason : Reason} {answer : Answer} → FileRead file batch state (NotRead reason) newBatch newState → answer ≡ openedTold (NotRead reason) .answer
+      → Judged base file batch state records answer newBatch newState records
+  unfolding fileRun openedVerdict told answerOf endOf commandsOf writtenOf wordsOf
   not-read f e = record {
     answers = rw (← f .answers) e;
     batchFilled = f .batchFilled;
@@ -40,15 +42,15 @@ module _ {file batch state newBatch newState : List ℕ} where
       let h = held file (length batch) (length state) (sym (f .answers)) in
       rw (p .0, p .1, ← h .counts)
 
-  pub read-and-checked : {records newRecords : List ℕ} {contents : Contents} {answer : Answer} {scratch : ℕ}
+  pub read-and-checked : {base : Base} {records newRecords : List ℕ} {contents : Contents} {answer : Answer} {scratch : ℕ}
       → FileRead file batch state (Holds contents) newBatch newState → scratch ≡ trailerOf file .scratchBytes
-      → Checked (lent.captureOf (take (contents .batch .count) newBatch) (contents .batch .at) (take (contents .state .count) newState) (contents .state .at)
-      (contents .scratch .at) scratch) records answer newRecords → Judged file batch state records answer newBatch newState newRecords
+      → Checked base (lent.captureOf (take (contents .batch .count) newBatch) (contents .batch .at) (take (contents .state .count) newState) (contents .state .at)
+      (contents .scratch .at) scratch) records answer newRecords → Judged base file batch state records answer newBatch newState newRecords
   unfolding fileRun openedVerdict
   read-and-checked f e k =
       let h = held file (length batch) (length state) (sym (f .answers)) in
-      let told = e ∙ ap (λ (c : Contents). c .scratch .bytes) (h .counts) in
-      let k′ = rw (told, same-capture f) at k in
+      let scratches = e ∙ ap (λ (c : Contents). c .scratch .bytes) (h .counts) in
+      let k′ = rw (scratches, same-capture f) at k in
       record {
         answers = rw (← f .answers) (k′ .answers);
         batchFilled = f .batchFilled;

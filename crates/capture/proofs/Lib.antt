@@ -2,4 +2,3 @@ pub mod Filling
 pub mod Judging
 pub mod Opening
 pub mod Reading
-pub mod Unique

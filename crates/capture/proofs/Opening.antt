@@ -16,9 +16,9 @@ use Rattle.rules.specs.declared.Fault.{Fault}
 use Rattle.rules.specs.declared.Verdict.{Verdict}
 use Rattle.rules.specs.declared.Verdict.the-variants.{Pass, Fails}
 use Rattle.rules.specs.Refusals.{inBatch, fault, tried, firstFault}
-use Rattle.rules.specs.File.{Offer, trailerOf, contentsOf, fileChecks, distanceWrong, fileCountsWrong, bufferShort, openedBy, openedOf}
+use Rattle.rules.specs.File.{offer, Offer, trailerOf, contentsOf, fileChecks, distanceWrong, fileCountsWrong, bufferShort, openedBy, openedOf}
 use Rattle.rules.proofs.Trying.{no-fault, stays-failed}
-use Rattle.capture.specs.Offers.{offer, alone}
+use Rattle.capture.specs.Offers.{alone}
 
 -- a list of checks is tried in order: first its head, then the next where one passes, and none behind a fault
 first : (check : Offer → Verdict) (checks : List (Offer → Verdict)) (o : Offer) → firstFault (check ∷ checks) o ≡ tried checks (check o) o

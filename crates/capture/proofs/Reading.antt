@@ -16,11 +16,12 @@ use Rattle.rules.specs.declared.Reason.{Reason}
 use Rattle.rules.specs.declared.Verdict.{Verdict}
 use Rattle.rules.specs.declared.Verdict.the-variants.{Pass, Fails}
 use Rattle.rules.specs.Refusals.{firstFault}
-use Rattle.rules.specs.File.{Trailer, trailerOf, contentsOf, fileChecks, distanceWrong, bufferShort, openedBy, openedOf}
+use Rattle.rules.specs.File.{Trailer, offer, trailerOf, contentsOf, fileChecks, distanceWrong, bufferShort, openedBy, openedOf}
 use Rattle.rules.specs.File.{dwordsFrom, batchFrom, batchDwords, stateDwords, filled, filledBy, FileRead}
 use Rattle.rules.proofs.Searching.{some-left, some-right, and-left, and-right}
 use Rattle.rules.proofs.Trying.{all-pass, refuse-passes}
-use Rattle.capture.specs.Offers.{offer, alone}
+use Rattle.rules.proofs.Readings.{opened-told}
+use Rattle.capture.specs.Offers.{alone}
 use Rattle.capture.proofs.Filling.{length-dwords}
 
 same-contents : {c d : Contents} → Holds c ≡ Holds d → c ≡ d
@@ -74,7 +75,7 @@ held file b s e =
 module _ {file batch state : List ℕ} where
   pub left-alone : {reason : Reason} → openedOf file (length batch) (length state) ≡ NotRead reason → FileRead file batch state (NotRead reason) batch state
   unfolding filledBy
-  left-alone e = record { answers = sym e; batchFilled = rw e; stateFilled = rw e }
+  left-alone e = record { answers = sym e; tells = rw (← e) (opened-told file _ _); batchFilled = rw e; stateFilled = rw e }
 
   pub filled-in : {contents : Contents} {newBatch newState : List ℕ} → openedOf file (length batch) (length state) ≡ Holds contents
       → newBatch ≡ filled (dwordsFrom file 0 (contents .batch .count)) batch
@@ -85,7 +86,12 @@ module _ {file batch state : List ℕ} where
       let h = held file (length batch) (length state) e in
       let first = ap (λ (c : Contents). c .batch .count) (h .counts) in
       let second = ap (λ (c : Contents). c .state .count) (h .counts) in
-      record { answers = sym e; batchFilled = rw (e, h .start, first) p; stateFilled = rw (e, h .start, first, second, zero-add) q }
+      record {
+        answers = sym e;
+        tells = rw (← e) (opened-told file _ _);
+        batchFilled = rw (e, h .start, first) p;
+        stateFilled = rw (e, h .start, first, second, zero-add) q;
+      }
 
   -- the words that were filled are the file's dwords, for whoever goes on with them
   pub parts : {contents : Contents} {newBatch newState : List ℕ} → FileRead file batch state (Holds contents) newBatch newState

@@ -1,12 +1,8 @@
--- What the reader is asked, as its functions say it: the rules take it as one record.
-use Prim.Native.Nat.{ℕ}
+-- What the reader is asked where only the file counts: the rules take file and rooms as one record.
 use mathlib.Core.List.{List}
-use Rattle.rules.specs.File.{Offer}
+use Prim.Native.Nat.{ℕ}
+use Rattle.rules.specs.File.{Offer, offer}
 
--- a file, and the room of the two buffers
-abbrev pub offer : List ℕ → ℕ → ℕ → Offer
-offer file batchRoom stateRoom = record { file = file; batchRoom = batchRoom; stateRoom = stateRoom }
-
--- where only the file is asked
+-- a file, whatever the buffers are
 abbrev pub alone : List ℕ → Offer
 alone file = offer file 0 0

@@ -9,11 +9,12 @@ use walk::answers::number;
 ghost use mathlib.Core.Path.{_≡_};
 ghost use Prim.Native.Nat.{_+_, _-_, _*_, _≤_, _<_};
 ghost use lib.ListN.{length};
+ghost use Rattle.rules.specs.Records.{startingBase};
 ghost use Rattle.rules.specs.File.{word, longWord, trailerBytes, trailerOf, contentsOf};
-ghost use Rattle.rules.specs.File.{distanceWrong, fileCountsWrong, bufferShort, openedOf};
-ghost use Rattle.rules.specs.File.{dwordsFrom, filled, FileRead, openedAnswer, Judged};
+ghost use Rattle.rules.specs.File.{offer, distanceWrong, fileCountsWrong, bufferShort, openedOf};
+ghost use Rattle.rules.specs.File.{dwordsFrom, filled, FileRead, openedTold, Judged};
 ghost use Rattle.rules.specs.declared.Opened.the-variants.{NotRead};
-ghost use Rattle.capture.specs.Offers.{offer, alone};
+ghost use Rattle.capture.specs.Offers.{alone};
 
 const TRAILER_BYTES: usize = 40;
 
@@ -179,7 +180,7 @@ pub fn read(file: &[u8], batch: &mut [u32], state: &mut [u32]) -> Opened
 
 // The answer for a file that is not read: its place is 0,0, and no command was checked.
 fn refusal(reason: Reason) -> Answer
-    ensures { λ r. ⌜ r ≡ openedAnswer (NotRead reason) ⌝ }
+    ensures { λ r. ⌜ r ≡ openedTold (NotRead reason) .answer ⌝ }
 {
     Answer {
         reason: number(reason),
@@ -192,7 +193,7 @@ fn refusal(reason: Reason) -> Answer
 // The whole answer for a file: it is read into two lent buffers, and exactly the words that it fills are checked.
 pub fn judge(file: &[u8], batch: &mut [u32], state: &mut [u32], records: &mut [u32]) -> Answer
     ensures { λ r.
-        ⌜ Judged (now (file .entry)) (now (batch .entry)) (now (state .entry)) (now (records .entry)) r (now (batch .exit)) (now (state .exit)) (now (records .exit)) ⌝ }
+        ⌜ Judged startingBase (now (file .entry)) (now (batch .entry)) (now (state .entry)) (now (records .entry)) r (now (batch .exit)) (now (state .exit)) (now (records .exit)) ⌝ }
 {
     match read(file, batch, state) {
         Opened::NotRead(reason) => refusal(reason),

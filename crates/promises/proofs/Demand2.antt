@@ -1,153 +1,114 @@
--- DEMAND 2. A capture is accepted exactly when the walk meets no fault; otherwise the answer is the walk's first fault, in its order of checks, and
--- the records list the commands before it. The only hypothesis is the promise that `walk::check` ensures.
---
--- Read it beside three definitions of rules: `Leads c s ks t` (specs/Walk), that from the cursor s the commands ks are taken, one after the other, and
--- then the walk stands at t; `checks n room` (specs/Step), the checks 5 to 18 in their order, with n commands done and room for so many
--- records; and `AllPass`, `FirstFault` (proofs/Trying), that each check of a list passes, or that one fails and each before it passes.
+-- Demand 2 from the promise of `walk::check`, the only hypothesis; and back: demand 2 leaves no other answer and no other records than the walk's, and
+-- demands 1 and 2 together are the promise.
 -- Assumes nothing.
-use Prim.Native.Nat.{ℕ, _<_}
+use Prim.Native.Nat.{ℕ}
 use native.Mathlib.Omega.{arith}
 use mathlib.Core.Path.{_≡_, refl, sym, ap, _∙_}
 use mathlib.Core.List.{List, [], _∷_, _++_}
-use mathlib.Core.Logic.{_⊎_, inl, inr, ⊎-elim, _↔_}
-use lib.ListN.{length, take}
+use mathlib.Core.Logic.{_⊎_, inl, inr, ⊎-elim}
+use lib.ListN.{length, take, drop, take-append-drop}
+use lib.Dec.{eqb}
+use borrow.Author.Tests.{eqb-true, eqb-false}
 use Rattle.rules.specs.declared.Answer.{Answer}
-use Rattle.rules.specs.declared.Base.the-variants.{Unset}
-use Rattle.rules.specs.declared.Cursor.{Cursor}
+use Rattle.rules.specs.declared.Base.{Base}
 use Rattle.rules.specs.declared.Command.{Command}
-use Rattle.rules.specs.declared.After.the-variants.{Ends}
-use Rattle.rules.specs.declared.Outcome.the-variants.{Taken}
 use Rattle.rules.specs.declared.Fault.{Fault}
-use Rattle.rules.specs.declared.Reason.{Reason}
-use Rattle.rules.specs.declared.Reason.the-variants.{WrongCounts, AddressUnaligned, EndsTooHigh, WindowsShare, BudgetSpent, RanOff, UnknownHeader, WrongLength, PastTheWindow, BitNotAllowed, NestedStart, ValueBroken, RangeOutside, BaseNeverSet, StructureNowhere, StructureBit, StructureValue, RecordsFull, FileSize, FileDistance, BufferShort}
 use Rattle.rules.specs.declared.Verdict.{Verdict}
 use Rattle.rules.specs.declared.Verdict.the-variants.{Pass, Fails}
-use Rattle.rules.specs.Refusals.{numberOf}
-use Rattle.rules.specs.Windows.{Capture, lengthsOf, windowFault}
-use Rattle.rules.specs.Step.{here, checks, stepOf}
-use Rattle.rules.specs.Walk.{start, walk, Leads, commandsOf, endOf, answerWith, answerOf}
-use Rattle.rules.specs.Records.{Checked, wordsOf}
-use Rattle.rules.proofs.Trying.{AllPass, FirstFault}
-use Rattle.rules.proofs.Walking.{NoFault, RefusedAt, refusal, accepted-passes, passes-accepted, completion}
-use Rattle.promises.proofs.Demand1.{records-stand}
+use Rattle.rules.specs.Refusals.{FirstFault, answerWith}
+use Rattle.rules.specs.Windows.{Capture, lengthsOf, windowChecks, windowFault}
+use Rattle.rules.specs.Walk.{commandsOf, endOf, answerOf, Complete, WalkFault}
+use Rattle.rules.specs.Records.{Checked, roomOf, wordsFor, wordsOf, writtenOf}
+use Rattle.rules.proofs.Searching.{either}
+use Rattle.rules.proofs.Trying.{first-fault, first-is}
+use Rattle.rules.proofs.Unique.{words-counted, count-is, zero-is-pass, pass-is-zero}
+use Rattle.rules.proofs.Walking.{walk-unsound, refusal, accepted-passes, passes-accepted, completion}
+use Rattle.rules.proofs.Deciding.{complete-told, fault-told}
+use Rattle.promises.specs.Demand1.{Demand1}
+use Rattle.promises.specs.Demand2.{Refusal, Demand2}
+use Rattle.promises.proofs.Demand1.{walkOf, records-stand}
 
--- no refusal has number 0
-no-zero : (r : Reason) → numberOf r ≡ 0 → ⊥
-unfolding numberOf
-no-zero WrongCounts e = omega arith
-no-zero AddressUnaligned e = omega arith
-no-zero EndsTooHigh e = omega arith
-no-zero WindowsShare e = omega arith
-no-zero BudgetSpent e = omega arith
-no-zero RanOff e = omega arith
-no-zero UnknownHeader e = omega arith
-no-zero WrongLength e = omega arith
-no-zero PastTheWindow e = omega arith
-no-zero BitNotAllowed e = omega arith
-no-zero NestedStart e = omega arith
-no-zero ValueBroken e = omega arith
-no-zero RangeOutside e = omega arith
-no-zero BaseNeverSet e = omega arith
-no-zero StructureNowhere e = omega arith
-no-zero StructureBit e = omega arith
-no-zero StructureValue e = omega arith
-no-zero RecordsFull e = omega arith
-no-zero FileSize e = omega arith
-no-zero FileDistance e = omega arith
-no-zero BufferShort e = omega arith
+module _ {base : Base} {c : Capture} {old : List ℕ} where
+  module _ {new : List ℕ} {r : Answer} (p : Checked base c old r new) where
+    answer-is : r ≡ answerWith (endOf (walkOf base c old)) (length (commandsOf (walkOf base c old)))
+    unfolding answerOf
+    answer-is = p .answers
 
-zero-is-pass : (v : Verdict) (n : ℕ) → answerWith v n .reason ≡ 0 → v ≡ Pass
-unfolding answerWith
-zero-is-pass Pass n e = refl
-zero-is-pass (Fails f) n e = absurd (no-zero (f .reason) e)
+    pub passes : r .reason ≡ 0 → endOf (walkOf base c old) ≡ Pass
+    passes e = zero-is-pass (endOf (walkOf base c old)) (length (commandsOf (walkOf base c old))) (ap (λ (a : Answer). a .reason) (sym answer-is) ∙ e)
 
-pass-is-zero : (v : Verdict) (n : ℕ) → v ≡ Pass → answerWith v n .reason ≡ 0
-unfolding answerWith
-pass-is-zero v n e = rw e
+    accepted : endOf (walkOf base c old) ≡ Pass → r .reason ≡ 0
+    accepted e = ap (λ (a : Answer). a .reason) answer-is ∙ pass-is-zero (endOf (walkOf base c old)) (length (commandsOf (walkOf base c old))) e
 
--- the run of an accepted capture: its commands lead to a batch end at level 0, which is the last of them
-pub record Complete (c : Capture) (commands : List Command) : Type 0 where
-  pub before : List Command
-  pub last : Command
-  pub cursor : Cursor
-  pub reached : Leads c (start Unset) before cursor
-  pub ends : stepOf c cursor ≡ Taken last Ends
-  pub all : commands ≡ before ++ (last ∷ [])
+    completes : r .reason ≡ 0 → (r ≡ record { reason = 0; window = 0; index = 0; count = length (commandsOf (walkOf base c old)) }) × Complete base c (commandsOf (walkOf base c old))
+    unfolding answerWith
+    completes e = (answer-is ∙ ap (λ (v : Verdict). answerWith v (length (commandsOf (walkOf base c old)))) (passes e), completion base c (roomOf (length old)) (passes e))
 
--- the walk's first fault: exactly the commands told lead to a cursor where it is the first in the order of checks, and every check passes at each
--- command before it
-pub record WalkFault (c : Capture) (room : ℕ) (commands : List Command) (f : Fault) : Type 0 where
-  pub sound : windowFault (lengthsOf c) ≡ Pass
-  pub cursor : Cursor
-  pub reached : Leads c (start Unset) commands cursor
-  pub first : FirstFault (checks (length commands) room) (here c cursor) f
-  pub earlier : (ks : List Command) (t : Cursor) → Leads c (start Unset) ks t → length ks < length commands → AllPass (checks (length ks) room) (here c t)
+    refuses : (r .reason ≡ 0 → ⊥) → Refusal base c (roomOf (length old)) r (commandsOf (walkOf base c old))
+    unfolding answerWith windowFault
+    refuses n = by (endOf (walkOf base c old)) refl
+      where
+        windows : {f : Fault} → (windowFault (lengthsOf c) ≡ Fails f) × (commandsOf (walkOf base c old) ≡ []) → FirstFault windowChecks (lengthsOf c) f × (commandsOf (walkOf base c old) ≡ [])
+        windows q = (first-fault (lengthsOf c) windowChecks _ (q .0), q .1)
 
--- a refusal: the fault that is answered, with the number of commands told; the windows' own (1 to 4), with none told, or the walk's first
-pub record Refusal (c : Capture) (room : ℕ) (r : Answer) (commands : List Command) : Type 0 where
-  pub fault : Fault
-  pub answer : r ≡ record { reason = numberOf (fault .reason); window = fault .window; index = fault .index; count = length commands }
-  pub first : ((windowFault (lengthsOf c) ≡ Fails fault) × (commands ≡ [])) ⊎ WalkFault c room commands fault
+        by : (v : Verdict) → endOf (walkOf base c old) ≡ v → Refusal base c (roomOf (length old)) r (commandsOf (walkOf base c old))
+        by Pass e = absurd (n (accepted e))
+        by (Fails f) e = record {
+          fault = f;
+          answer = answer-is ∙ ap (λ (v : Verdict). answerWith v (length (commandsOf (walkOf base c old)))) e;
+          first = ⊎-elim (λ q. inl (windows q)) (λ q. inr q) (refusal base c (roomOf (length old)) e);
+        }
 
--- THE DEMAND
-pub record Demand2 (c : Capture) (old : List ℕ) (r : Answer) (new : List ℕ) : Type 0 where
-  pub commands : List Command
-  -- the records are those of the commands, in order
-  pub listed : take (r .count) new ≡ wordsOf commands
-  -- accepted exactly when the windows are sound and no check faults at any command that is reached
-  pub accepted : (r .reason ≡ 0) ↔ NoFault Unset c (length old)
-  -- and then the commands are a run to the end
-  pub complete : r .reason ≡ 0 → (r ≡ record { reason = 0; window = 0; index = 0; count = length commands }) × Complete c commands
-  -- otherwise the first fault
-  pub refused : (r .reason ≡ 0 → ⊥) → Refusal c (length old) r commands
+    -- THE DEMAND
+    pub demand-2 : Demand2 base c old r new
+    demand-2 = record {
+      commands = commandsOf (walkOf base c old);
+      listed = records-stand p;
+      accepted = (λ e. accepted-passes base c (roomOf (length old)) (passes e), λ q. accepted (passes-accepted base c (roomOf (length old)) q));
+      complete = completes;
+      refused = refuses;
+    }
 
-module _ {c : Capture} {old new : List ℕ} {r : Answer} (p : Checked c old r new) where
-  theWalk : Verdict
-  theWalk = endOf (walk Unset c (length old))
+  -- AND BACK: what demand 2 admits
+  module _ {new : List ℕ} {r : Answer} (d : Demand2 base c old r new) where
+    accepts : r .reason ≡ 0 → (r ≡ answerOf (walkOf base c old)) × (d .commands ≡ commandsOf (walkOf base c old))
+    unfolding answerOf answerWith
+    accepts e =
+        let w = passes-accepted base c (roomOf (length old)) (d .accepted .0 e) in
+        let q = d .complete e in
+        let k = complete-told base c (roomOf (length old)) w (q .1) in
+        (q .0 ∙ rw (w, k), k)
 
-  told : List Command
-  told = commandsOf (walk Unset c (length old))
+    windows-refuse : (f : Fault) → FirstFault windowChecks (lengthsOf c) f → d .commands ≡ [] → r ≡ answerWith (Fails f) (length (d .commands))
+        → (r ≡ answerOf (walkOf base c old)) × (d .commands ≡ commandsOf (walkOf base c old))
+    unfolding windowFault answerOf commandsOf endOf
+    windows-refuse f q k a = let w = walk-unsound base c (roomOf (length old)) (first-is q) in (a ∙ rw (w, k), k ∙ rw w)
 
-  answer-is : r ≡ answerWith theWalk (length told)
-  unfolding theWalk told answerOf
-  answer-is = p .answers
+    walk-refuses : (f : Fault) → WalkFault base c (roomOf (length old)) (d .commands) f → r ≡ answerWith (Fails f) (length (d .commands))
+        → (r ≡ answerOf (walkOf base c old)) × (d .commands ≡ commandsOf (walkOf base c old))
+    unfolding answerOf
+    walk-refuses f q a = let w = fault-told base c (roomOf (length old)) q in (a ∙ rw (w .0, w .1), w .1)
 
-  pub passes : r .reason ≡ 0 → endOf (walk Unset c (length old)) ≡ Pass
-  unfolding theWalk told
-  passes e = zero-is-pass theWalk (length told) (ap (λ (a : Answer). a .reason) (sym answer-is) ∙ e)
+    decided : (r ≡ answerOf (walkOf base c old)) × (d .commands ≡ commandsOf (walkOf base c old))
+    unfolding answerWith
+    decided = ⊎-elim (λ q. accepts (eqb-true (r .reason) 0 q)) (λ q. refusing (d .refused (eqb-false (r .reason) 0 q))) (either (eqb (r .reason) 0))
+      where
+        refusing : Refusal base c (roomOf (length old)) r (d .commands) → (r ≡ answerOf (walkOf base c old)) × (d .commands ≡ commandsOf (walkOf base c old))
+        refusing q = ⊎-elim (λ x. windows-refuse (q .fault) (x .0) (x .1) (q .answer)) (λ x. walk-refuses (q .fault) x (q .answer)) (q .first)
 
-  completes : r .reason ≡ 0 → (r ≡ record { reason = 0; window = 0; index = 0; count = length told }) × Complete c told
-  unfolding theWalk told answerWith
-  completes e =
-      let q = completion Unset c (length old) (passes e) in (
-        answer-is ∙ ap (λ (v : Verdict). answerWith v (length told)) (passes e),
-        record { before = q .before; last = q .last; cursor = q .cursor; reached = q .reached; ends = q .ends; all = q .commands },
-      )
+    -- the walk's answer, and the walk's commands in the records
+    pub answer-decided : r ≡ answerOf (walkOf base c old)
+    answer-decided = decided .0
 
-  refuses : (r .reason ≡ 0 → ⊥) → Refusal c (length old) r told
-  unfolding theWalk told answerWith
-  refuses n = by theWalk refl
-    where
-      at-walk : {f : Fault} → RefusedAt Unset c (length old) f → WalkFault c (length old) told f
-      at-walk q = record { sound = q .sound; cursor = q .cursor; reached = q .reached; first = q .first; earlier = q .earlier }
+    pub records-decided : take (wordsFor (r .count)) new ≡ wordsOf (commandsOf (walkOf base c old))
+    records-decided = d .listed ∙ ap wordsOf (decided .1)
 
-      by : (v : Verdict) → theWalk ≡ v → Refusal c (length old) r told
-      by Pass e = absurd (n (ap (λ (a : Answer). a .reason) answer-is ∙ pass-is-zero theWalk (length told) e))
-      by (Fails f) e = record {
-        fault = f;
-        answer = answer-is ∙ ap (λ (v : Verdict). answerWith v (length told)) e;
-        first = ⊎-elim (λ q. inl q) (λ q. inr (at-walk q)) (refusal Unset c (length old) e);
-      }
-
-  pub demand-2 : Demand2 c old r new
-  unfolding theWalk told
-  demand-2 = record {
-    commands = told;
-    listed = records-stand p;
-    accepted = (
-      λ e. accepted-passes Unset c (length old) (passes e),
-      λ q. ap (λ (a : Answer). a .reason) answer-is ∙ pass-is-zero theWalk (length told) (passes-accepted Unset c (length old) q),
-    );
-    complete = completes;
-    refused = refuses;
-  }
+    -- with demand 1 it is the whole promise
+    pub promise : Demand1 c old r new → Checked base c old r new
+    unfolding writtenOf
+    promise o =
+        let n = ap (λ (a : Answer). wordsFor (a .count)) answer-decided ∙ ap wordsFor (count-is (walkOf base c old)) ∙ sym (words-counted (commandsOf (walkOf base c old))) in
+        record {
+          answers = answer-decided;
+          written = sym (take-append-drop (wordsFor (r .count)) new) ∙ rw (records-decided, o .rest, n);
+        }

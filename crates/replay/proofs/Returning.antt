@@ -1,70 +1,87 @@
--- A level-1 end always finds a kept position: the dword after a start of this very run. And a command's dwords all lie in the batch.
+-- A level-1 end finds a kept position, the dword after a start of this very run: what a step of the walk says of the moments up to it.
 -- Assumes nothing.
-use Prim.Native.Nat.{ℕ, _+_, _<_}
+use Prim.Native.Nat.{ℕ, _+_}
+use native.Mathlib.Omega.{arith}
 use mathlib.Core.Path.{_≡_, refl, sym, ap, _∙_}
-use mathlib.Core.Bool.{true, false}
-use mathlib.Core.List.{List, [], _∷_, _++_}
-use mathlib.Core.Option.{some}
-use lib.ListN.{length, getD}
+use mathlib.Core.Bool.{true}
+use mathlib.Core.List.{List, [], _∷_}
+use mathlib.Core.Logic.{inl, inr}
+use lib.ListN.{getD}
 use Rattle.rules.specs.declared.Base.{Base}
 use Rattle.rules.specs.declared.Level.{Level}
 use Rattle.rules.specs.declared.Level.the-variants.{First, Second}
 use Rattle.rules.specs.declared.Cursor.{Cursor}
 use Rattle.rules.specs.declared.Command.{Command}
 use Rattle.rules.specs.declared.After.{After}
-use Rattle.rules.specs.declared.After.the-variants.{To}
+use Rattle.rules.specs.declared.After.the-variants.{Ends, To}
 use Rattle.rules.specs.declared.Outcome.the-variants.{Taken}
 use Rattle.rules.specs.Words.{bit}
 use Rattle.rules.specs.Windows.{Capture}
-use Rattle.rules.specs.Step.{startRow, rowAt, lengthAt, dwordsAt, stepOf}
-use Rattle.rules.specs.Walk.{start, Leads, stays, onward}
-use Rattle.rules.proofs.Running.{leads-on}
+use Rattle.rules.specs.Step.{endRow, startRow, headerAt, rowAt, lengthAt, dwordsAt, commandAt as walkCommand, stepOf}
 use Rattle.rules.proofs.Stepping.{took, passed}
-use Rattle.rules.proofs.Moving.{Way, ends, returns, jumps, calls, goes-on, taken-way, nextAt, same-cursor, ends-nowhere, first-keeps-none, same-kept, lies-in-batch}
-use Rattle.replay.specs.Streamer.{Machine}
-use Rattle.replay.proofs.Fetching.{isSecond, Agrees}
+use Rattle.rules.proofs.Moving.{Way, ends, returns, jumps, calls, goes-on, taken-way, nextAt, same-cursor, ends-nowhere, first-keeps-none, same-kept, return-level}
+use Rattle.replay.specs.Streamer.{Machine, Effect}
+use Rattle.replay.specs.Runs.{Moment, moment, commandAt}
+use Rattle.replay.specs.Conduct.{Keeps, Kept, Returns}
+use Rattle.replay.proofs.Fetching.{isSecond, Agrees, header-is}
 
--- a position kept by this run: the one after a start with bit 22 set that the run has come to
-pub record Called (c : Capture) (base : Base) (back : ℕ) : Type 0 where
-  pub commands : List Command
-  pub cursor : Cursor
-  pub reached : Leads c (start base) commands cursor
-  pub starts : rowAt (c .batch) (cursor .at) ≡ startRow
-  pub keeps : bit (getD (dwordsAt (c .batch) (cursor .at)) 0 0) 22 ≡ true
-  pub after : back ≡ nextAt c cursor
+-- at level 1 the position that the walk keeps is one that a moment of the run has kept
+abbrev pub Origin : Capture → List Moment → Cursor → Type 0
+Origin c past s = (back : ℕ) → s .level ≡ Second back → Kept (c .batch) past back
 
--- at level 1 the kept position is one
-abbrev Origin : Capture → Base → Cursor → Type 0
-Origin c base s = (back : ℕ) → s .level ≡ Second back → Called c base back
+pub first-origin : (c : Capture) (past : List Moment) (s : Cursor) → s .level ≡ First → Origin c past s
+first-origin c past s e = λ back q. absurd (first-keeps-none (sym e ∙ q))
 
-origin-next : (c : Capture) (base : Base) {ks : List Command} {s t : Cursor} {k : Command} → Leads c (start base) ks s → Origin c base s → stepOf c s ≡ Taken k (To t) → Origin c base t
-origin-next c base {ks} {s} {t} l o e = by (To t) refl (taken-way c s e)
-  where
-    level : {u : Cursor} → To u ≡ To t → t .level ≡ u .level
-    level q = sym (ap (λ (u : Cursor). u .level) (same-cursor q))
+-- the streamer's command at a moment is the walk's
+module _ (c : Capture) (s : Cursor) (m : Machine) (g : Agrees c s m) (k : Command) (same : commandAt m ≡ k) (past : List Moment) (o : Origin c past s) where
+  module _ {a : After} (e : stepOf c s ≡ Taken k a) where
+    told : commandAt m ≡ walkCommand (c .batch) s
+    told = same ∙ took c s e .command
 
-    by : (a : After) → a ≡ To t → Way c s a → Origin c base t
-    by a q (ends r m) = absurd (ends-nowhere q)
-    by a q (returns r m) = λ back x. absurd (first-keeps-none (sym (level q) ∙ x))
-    by a q (jumps r b) = λ back x. o back (sym (level q) ∙ x)
-    by a q (calls r b) = λ back x. record { commands = ks; cursor = s; reached = l; starts = r; keeps = b; after = same-kept (sym x ∙ level q) }
-    by a q (goes-on r n) = λ back x. o back (sym (level q) ∙ x)
+    row-is : commandAt m .row ≡ rowAt (c .batch) (s .at)
+    unfolding walkCommand
+    row-is = ap (λ (j : Command). j .row) told
 
-origin-along : (c : Capture) (base : Base) {ks ls : List Command} {s t : Cursor} → Leads c (start base) ks s → Origin c base s → Leads c s ls t → Origin c base t
-origin-along c base l o stays = o
-origin-along c base l o (onward e r) = origin-along c base (leads-on c l (onward e stays)) (origin-next c base l o e) r
+    header-bit : bit (getD (dwordsAt (c .batch) (s .at)) 0 0) 22 ≡ true → bit (getD (c .batch) (commandAt m .index) 0) 22 ≡ true
+    unfolding walkCommand
+    header-bit b =
+        ap (λ (j : Command). bit (getD (c .batch) (j .index) 0) 22) told
+        ∙ ap (λ (w : ℕ). bit w 22) (sym (header-is c s m (passed c s (took c s e .passes)) g)) ∙ b
 
--- A LEVEL-1 END FINDS A KEPT POSITION: a machine that agrees with a cursor of the walk, at level 1, has kept the dword after a start of this run
-pub level-1-keeps : (c : Capture) (base : Base) {ks : List Command} {s : Cursor} (m : Machine) → Leads c (start base) ks s → Agrees c s m → m .second ≡ true → (back : ℕ) × (m .kept ≡ some back) × Called c base back
-level-1-keeps c base {ks} {s} m l g e = by (s .level) refl
-  where
-    by : (x : Level) → s .level ≡ x → (back : ℕ) × (m .kept ≡ some back) × Called c base back
-    by First q = absurd (never (sym (g .level ∙ ap isSecond q) ∙ e))
-      where
-        never : false ≡ true → ⊥
-        never z = Rattle.rules.proofs.Searching.never-both z refl
-    by (Second back) q = (back, g .kept back q, origin-along c base stays (λ b x. absurd (first-keeps-none x)) l back q)
+    keeps-here : (effect : Effect) → rowAt (c .batch) (s .at) ≡ startRow → bit (getD (dwordsAt (c .batch) (s .at)) 0 0) 22 ≡ true
+        → Keeps (c .batch) (moment m effect) (nextAt c s)
+    unfolding walkCommand
+    keeps-here effect r b = record { starts = row-is ∙ r; calls = header-bit b; after = ap (λ (j : Command). j .index + j .length) (sym told) }
 
--- A COMMAND'S DWORDS ALL LIE IN THE BATCH
-pub dwords-in-batch : (c : Capture) (s : Cursor) {k : Command} {a : After} → stepOf c s ≡ Taken k a → (i : ℕ) → i < lengthAt (c .batch) (s .at) → s .at + i < length (c .batch)
-dwords-in-batch c s e i h = lies-in-batch c s (passed c s (took c s e .passes)) i h
+  -- what was kept before, and what this moment keeps, is what the next cursor has kept
+  pub origin-next : (effect : Effect) {t : Cursor} → stepOf c s ≡ Taken k (To t) → Origin c (moment m effect ∷ past) t
+  origin-next effect {t} e = by (To t) refl (taken-way c s e)
+    where
+      level : {u : Cursor} → To u ≡ To t → t .level ≡ u .level
+      level q = sym (ap (λ (u : Cursor). u .level) (same-cursor q))
+
+      by : (a : After) → a ≡ To t → Way c s a → Origin c (moment m effect ∷ past) t
+      by a q (ends r l) = absurd (ends-nowhere q)
+      by a q (returns r l) = first-origin c (moment m effect ∷ past) t (level q)
+      by a q (jumps r b) = λ back x. inr (o back (sym (level q) ∙ x))
+      by a q (calls r b) = λ back x. let h = same-kept (sym x ∙ level q) in rw h (inl (keeps-here e effect r b))
+      by a q (goes-on r n) = λ back x. inr (o back (sym (level q) ∙ x))
+
+  -- an end at level 1 goes where one of them says
+  pub returns-here : (effect : Effect) {t : Cursor} → stepOf c s ≡ Taken k (To t) → Agrees c t (effect .machine) → commandAt m .row ≡ endRow
+      → Returns (c .batch) past m (moment m effect)
+  returns-here effect {t} e h r =
+      let l = return-level c s t e (sym (row-is e) ∙ r) in
+      record { back = t .at; kept = g .kept (t .at) (l .1); own = o (t .at) (l .1); goes = h .at; level = h .level ∙ ap isSecond (l .0) }
+
+  -- and one that ends the run is at level 0
+  pub ends-first : stepOf c s ≡ Taken k Ends → commandAt m .level ≡ 1 → ⊥
+  unfolding walkCommand
+  ends-first e one = by Ends refl (taken-way c s e)
+    where
+      by : (a : After) → a ≡ Ends → Way c s a → ⊥
+      by a q (ends r l) = let z : _≡_ {A = ℕ} 0 1 = ap Rattle.rules.specs.Step.levelNumber (sym l) ∙ ap (λ (j : Command). j .level) (sym (told e)) ∙ one in omega arith
+      by a q (returns r l) = absurd (ends-nowhere (sym q))
+      by a q (jumps r b) = absurd (ends-nowhere (sym q))
+      by a q (calls r b) = absurd (ends-nowhere (sym q))
+      by a q (goes-on r n) = absurd (ends-nowhere (sym q))

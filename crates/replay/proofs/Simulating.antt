@@ -19,19 +19,20 @@ use Rattle.rules.specs.declared.After.{After}
 use Rattle.rules.specs.declared.After.the-variants.{Ends, To}
 use Rattle.rules.specs.declared.Outcome.the-variants.{Taken}
 use Rattle.rules.specs.Words.{bit, field, inGroup}
-use Rattle.rules.specs.Windows.{Capture, windowsOf}
+use Rattle.rules.specs.Windows.{Capture, windowsOf, Inside}
 use Rattle.rules.specs.Commands.{Length, one, exactly, byBit, groups, rows, rowCount, theRow, rowOf, lengthOf, groupSize, lengthRight, masksOf, allowedAt}
 use Rattle.rules.specs.Values.{postSync}
 use Rattle.rules.specs.Addresses.{addressAt, rangeWrong}
 use Rattle.rules.specs.Step.{headerAt, rowAt, lengthAt, dwordsAt, cursor, commandAt as walkCommand, stepOf}
 use Rattle.rules.proofs.Searching.{either}
 use Rattle.rules.proofs.Stepping.{Passed, passed, took}
-use Rattle.rules.proofs.Ranges.{Inside, Sound}
+use Rattle.rules.proofs.Ranges.{Sound}
 use Rattle.rules.proofs.Storing.{Stores, row-four, row-five, row-seven, stores-in-scratch, access-fits, load-register-reaches}
 use Rattle.rules.proofs.Moving.{Way, ends, returns, jumps, calls, goes-on, taken-way, target-inside, targetAt, first-keeps-none, same-kept}
 use Rattle.replay.specs.Streamer.{Map, Machine, machine, Effect, Step, goes, fails, Hardware, withWord, fetched, fetchedWords, fetchedAddress, placeOf, loadFrom, storeWords, onward, advance, stores, update, withRegisters, setPairs, returning, endBatch, goingTo, startBatch, pipe, exec, step}
 use Rattle.replay.specs.Runs.{levelOf, commandAt}
-use Rattle.replay.proofs.Stores.{mapOf, Windowed, InScratch, AllInScratch, Stored, stored-words, loaded-word}
+use Rattle.replay.specs.Conduct.{mapOf, AllInScratch}
+use Rattle.replay.proofs.Stores.{Windowed, Stored, stored-words, loaded-word}
 use Rattle.replay.proofs.Fetching.{isSecond, Agrees, some-long, own-dword, counted, fetches, fetches-address, fetches-words, header-is, aligned}
 
 -- the streamer's step that a walk's move stands for, and where it leaves the machine

@@ -13,13 +13,11 @@ use lib.Dec.{eqb, leb, ltb, lit<}
 use borrow.Author.Tests.{leb-true, ltb-true, eqb-true, le-leb, lt-ltb, eq-eqb}
 use Rattle.rules.specs.declared.Windows.{Windows}
 use Rattle.rules.specs.declared.Allowed.the-variants.{AnyWindow}
-use Rattle.rules.specs.Windows.{Capture, lent, holds, windowsOf, windowsAllowed, listed, shareByte, fits}
+use Rattle.rules.specs.Windows.{Capture, lent, holds, Inside, windowsOf, windowsAllowed, listed, shareByte, fits}
 use Rattle.rules.proofs.Searching.{either, never-both, and-left, and-right}
-use Rattle.rules.proofs.Ranges.{Inside, inside, Sound, noWindow, some-at, no-two-at, both-share}
+use Rattle.rules.proofs.Ranges.{inside, Sound, noWindow, some-at, no-two-at, both-share}
 use Rattle.replay.specs.Streamer.{Map, Machine, machine, Effect, wordAt, Place, batchWord, stateWord, scratchWord, outside, placed, placeOf, loadFrom, storeTo, noting, withMachine, storeWords}
-
-abbrev pub mapOf : Capture → Map
-mapOf c = record { batchAt = c .batchAt; stateAt = c .stateAt; scratchAt = c .scratchAt }
+use Rattle.replay.specs.Conduct.{mapOf, InScratch, AllInScratch}
 
 -- the machine's windows are the capture's: batch and state as they were, and the whole words of scratch
 pub record Windowed (c : Capture) (m : Machine) : Type 0 where
@@ -52,15 +50,6 @@ module _ (at address : ℕ) (words : List ℕ) where
 -- two windows of a sound capture hold no word together
 apart : (w : Windows) → Sound w → (i j : ℕ) → i < j → j < 3 → (a : ℕ) → Inside (getD (listed w) i noWindow) a 4 → Inside (getD (listed w) j noWindow) a 4 → ⊥
 apart w s i j h k a p q = never-both (both-share _ _ a 4 (omega arith) p q) (no-two-at shareByte noWindow (listed w) (s .apart) i j h k)
-
--- a word of scratch
-abbrev pub InScratch : Capture → ℕ → Type 0
-InScratch c a = Inside (windowsOf c .scratch) a 4
-
--- every address of a list is one
-abbrev pub AllInScratch : Capture → List ℕ → Type 0
-AllInScratch c [] = Unit {0}
-AllInScratch c (a ∷ as′) = InScratch c a × AllInScratch c as′
 
 -- what stores leave as it was: all of the machine but the words of scratch
 pub record Stored (c : Capture) (m : Machine) (e : Effect) : Type 0 where

@@ -20,67 +20,70 @@ use Rattle.rules.specs.Walk.{Run, trace, traceFrom, cut, start, walk, commandsO
 use Rattle.rules.proofs.Trying.{fails-not-pass}
 use Rattle.rules.proofs.Ranges.{Sound, sound}
 use Rattle.rules.proofs.Moving.{first-keeps-none}
-use Rattle.rules.proofs.Walking.{walk-sound, accepted-passes}
+use Rattle.rules.proofs.Walking.{walk-sound, accepted-sound}
 use Rattle.replay.specs.Streamer.{Map, Machine, machine, Step, goes, ends, fails, Hardware, step}
-use Rattle.replay.specs.Runs.{Moment, moment, more, run, runOf}
-use Rattle.replay.proofs.Stores.{mapOf, Windowed, AllInScratch}
+use Rattle.replay.specs.Runs.{Moment, moment, more, run, runOf, afterAll}
+use Rattle.replay.specs.Conduct.{mapOf, atStart, AllFair, AllReturn}
 use Rattle.replay.proofs.Fetching.{Agrees}
 use Rattle.replay.proofs.Simulating.{simulated}
+use Rattle.replay.proofs.Returning.{Origin, first-origin, origin-next, returns-here, ends-first}
 
--- at a moment each word stored lies in scratch, and batch and state are those of the capture
-pub record Fair (c : Capture) (x : Moment) : Type 0 where
-  pub stored : AllInScratch c (x .stored)
-  pub batch : x .after .batch ≡ c .batch
-  pub state : x .after .state ≡ c .state
-
-abbrev pub AllFair : Capture → List Moment → Type 0
-AllFair c [] = Unit {0}
-AllFair c (x ∷ xs) = Fair c x × AllFair c xs
-
--- from a machine on the streamer ends after exactly these commands, in this order, and each moment is fair
-pub record Streams (c : Capture) (hardware : Hardware) (done : ℕ) (m : Machine) (ks : List Command) : Type 0 where
+-- from a machine on the streamer ends after exactly these commands, in this order, each moment is fair, and each level-1 end returns to where a start
+-- of the run came from; `past` are the moments before, the latest first
+pub record Streams (c : Capture) (hardware : Hardware) (done : ℕ) (past : List Moment) (m : Machine) (ks : List Command) : Type 0 where
   pub moments : List Moment
   pub runs : run (length ks) (mapOf c) hardware done m (step (mapOf c) hardware done m) ≡ some moments
   pub commands : map (λ x. x .command) moments ≡ ks
   pub fair : AllFair c moments
+  pub returns : AllReturn (c .batch) past m moments
 
-follows : (left room : ℕ) (c : Capture) → Sound (windowsOf c) → (hardware : Hardware) (done : ℕ) (s : Cursor) (m : Machine) (o : Outcome) → stepOf c s ≡ o → Agrees c s m
-    → endOf (cut room (trace left c s o)) ≡ Pass → Streams c hardware done m (commandsOf (cut room (trace left c s o)))
+follows : (left room : ℕ) (c : Capture) → Sound (windowsOf c) → (hardware : Hardware) (done : ℕ) (past : List Moment) (s : Cursor) (m : Machine) (o : Outcome)
+    → stepOf c s ≡ o → Agrees c s m → Origin c past s → endOf (cut room (trace left c s o)) ≡ Pass
+    → Streams c hardware done past m (commandsOf (cut room (trace left c s o)))
 unfolding trace cut commandsOf endOf run
-follows zero room c w hardware done s m o e g h = absurd (fails-not-pass h)
-follows (suc left) room c w hardware done s m (Refused f) e g h = absurd (fails-not-pass h)
-follows (suc left) zero c w hardware done s m (Taken k Ends) e g h = absurd (fails-not-pass h)
-follows (suc left) zero c w hardware done s m (Taken k (To t)) e g h = absurd (fails-not-pass h)
-follows (suc left) (suc room) c w hardware done s m (Taken k Ends) e g h =
+follows zero room c w hardware done past s m o e g a h = absurd (fails-not-pass h)
+follows (suc left) room c w hardware done past s m (Refused f) e g a h = absurd (fails-not-pass h)
+follows (suc left) zero c w hardware done past s m (Taken k Ends) e g a h = absurd (fails-not-pass h)
+follows (suc left) zero c w hardware done past s m (Taken k (To t)) e g a h = absurd (fails-not-pass h)
+follows (suc left) (suc room) c w hardware done past s m (Taken k Ends) e g a h =
     let x = simulated c w hardware done s m g e in
     record {
       moments = moment m (x .effect) ∷ [];
       runs = rw (x .steps);
       commands = ap (λ y. y ∷ []) (x .command);
       fair = (record { stored = x .inside; batch = x .led .batch; state = x .led .state }, tt);
+      returns = (λ row level. absurd (ends-first c s m g k (x .command) past a e level), tt);
     }
-follows (suc left) (suc room) c w hardware done s m (Taken k (To t)) e g h =
+follows (suc left) (suc room) c w hardware done past s m (Taken k (To t)) e g a h =
     let x = simulated c w hardware done s m g e in
-    let r = follows left room c w hardware (done + 1) t (x .effect .machine) (stepOf c t) refl (x .led) h in
+    let y = moment m (x .effect) in
+    let b = origin-next c s m g k (x .command) past a (x .effect) e in
+    let r = follows left room c w hardware (done + 1) (y ∷ past) t (x .effect .machine) (stepOf c t) refl (x .led) b h in
     record {
-      moments = moment m (x .effect) ∷ r .moments;
+      moments = y ∷ r .moments;
       runs = rw (x .steps, r .runs);
-      commands = ap₂ (λ y ys. y ∷ ys) (x .command) (r .commands);
+      commands = ap₂ (λ z zs. z ∷ zs) (x .command) (r .commands);
       fair = (record { stored = x .inside; batch = x .led .windowed .batch; state = x .led .windowed .state }, r .fair);
+      returns = (λ row level. returns-here c s m g k (x .command) past a (x .effect) e (x .led) row, r .returns);
     }
-
--- the machine at the start: dword 0, level 0, the capture's batch and state, and anything else
-abbrev pub atStart : Capture → Option ℕ → (ℕ → ℕ) → List ℕ → Machine
-atStart c kept registers scratch = machine 0 false kept registers (c .batch) (c .state) scratch
 
 -- THE RUN, for every starting base of the walk
-pub streams : (base : Base) (c : Capture) (room : ℕ) → endOf (walk base c room) ≡ Pass → (kept : Option ℕ) (registers : ℕ → ℕ) (scratch : List ℕ) → length scratch ≡ c .scratchBytes / 4 → (hardware : Hardware)
-    → Streams c hardware 0 (atStart c kept registers scratch) (commandsOf (walk base c room))
+pub streams : (base : Base) (c : Capture) (room : ℕ) → endOf (walk base c room) ≡ Pass → (kept : Option ℕ) (registers : ℕ → ℕ) (scratch : List ℕ)
+    → length scratch ≡ c .scratchBytes / 4 → (hardware : Hardware)
+    → Streams c hardware 0 [] (atStart c kept registers scratch) (commandsOf (walk base c room))
 streams base c room e kept registers scratch l hardware =
-    let q = walk-sound base c room (accepted-passes base c room e .sound) in
+    let w = accepted-sound base c room e in
+    let q = walk-sound base c room w in
     rw q
-    (follows budget room c (sound (lengthsOf c) (accepted-passes base c room e .sound)) hardware 0 (start base) _ (stepOf c (start base)) refl
-    (record { at = refl; level = refl; kept = λ back x. absurd (first-keeps-none x); windowed = record { batch = refl; state = refl; scratch = l } }) (rw q at e))
+    (follows budget room c (sound (lengthsOf c) w) hardware 0 [] (start base) _ (stepOf c (start base)) refl
+    (record { at = refl; level = refl; kept = λ back x. absurd (first-keeps-none x); windowed = record { batch = refl; state = refl; scratch = l } })
+    (first-origin c [] (start base) refl) (rw q at e))
+
+-- batch and state end as they began, if each moment is fair
+pub ends-as-it-began : (c : Capture) (m : Machine) (xs : List Moment) → m .batch ≡ c .batch → m .state ≡ c .state → AllFair c xs
+    → (afterAll m xs .batch ≡ c .batch) × (afterAll m xs .state ≡ c .state)
+ends-as-it-began c m [] b s f = (b, s)
+ends-as-it-began c m (x ∷ xs) b s f = ends-as-it-began c (x .after) xs (f .0 .batch) (f .0 .state) (f .1)
 
 -- the number of commands is the only one after which it ends
 none-some : {A : Type 0} {x : A} → _≡_ {A = Option A} none (some x) → ⊥

@@ -44,6 +44,11 @@ run (suc (suc n)) map hardware done m (ends e) = none
 run (suc n) map hardware done m (goes e) =
     let rest : Option (List Moment) = run n map hardware (done + 1) (e .machine) (step map hardware (done + 1) (e .machine)) in more (moment m e) rest
 
+-- the machine after these moments of a run, where `m` was before them
+abbrev pub afterAll : Machine → List Moment → Machine
+afterAll m [] = m
+afterAll m (x ∷ xs) = afterAll (x .after) xs
+
 -- the run of n commands from the start
 abbrev pub runOf : ℕ → Map → Hardware → Machine → Option (List Moment)
 runOf n map hardware m = run n map hardware 0 m (step map hardware 0 m)

@@ -6,10 +6,10 @@ pub mod Ranges
 pub mod Storing
 pub mod Moving
 pub mod Tables
-pub mod Versions
 pub mod Running
 pub mod Depths
 pub mod Unique
 pub mod Places
 pub mod Recording
 pub mod Readings
+pub mod Deciding

@@ -25,13 +25,14 @@ use Rattle.rules.specs.declared.Outcome.the-variants.{Refused}
 use Rattle.rules.specs.declared.Verdict.{Verdict}
 use Rattle.rules.specs.declared.Verdict.the-variants.{Pass, Fails}
 use Rattle.rules.specs.declared.Reason.{Reason}
-use Rattle.rules.specs.declared.Reason.the-variants.{WrongCounts, AddressUnaligned, EndsTooHigh, WindowsShare, RanOff, UnknownHeader, WrongLength, PastTheWindow, NestedStart}
+use Rattle.rules.specs.declared.Reason.the-variants.{WrongCounts, AddressUnaligned, EndsTooHigh, WindowsShare, RanOff, UnknownHeader, WrongLength, PastTheWindow, NestedStart, FileSize, FileDistance, BufferShort}
 use Rattle.rules.specs.Words.{bit, some, someTwo, firstOf}
 use Rattle.rules.specs.Refusals.{inBatch, inState, fault, refuseIf, refuseFound, tried, firstFault}
 use Rattle.rules.specs.Windows.{Capture, Lengths, windowLimit, listed, countsWrong, unaligned, endsTooHigh, shareByte, windowChecks, windowFault, lent, holds, holdsDwords, heldAt}
 use Rattle.rules.specs.Commands.{rows, rowCount, theRow, lengthOf, lengthRight}
-use Rattle.rules.specs.Structures.{Asked, askedAt, layoutOf, nowhere, heldWindow, heldFrom, structureNowhere, structureBit, structureValue}
+use Rattle.rules.specs.Structures.{Asked, askedAt, layoutOf, nowhere, heldWindow, heldFrom, structureNowhere, structureBit, structureValue, structureChecks}
 use Rattle.rules.specs.Step.{Here, here, headerAt, rowAt, lengthAt, dwordsAt, pointerOf, nested, baseMissing, pointed, ofStructure, ranOff, unknownHeader, wrongLength, pastTheWindow, bitNotAllowed, nestedStart, valueBroken, rangeOutside, baseNeverSet, stepChecks, stepOf}
+use Rattle.rules.specs.File.{Offer, sizeWrong, distanceWrong, fileCountsWrong, bufferShort, fileChecks}
 use Rattle.rules.proofs.Searching.{never-both, first-found, and-left}
 use Rattle.rules.proofs.Trying.{fails-not-pass, same-fault, stays-failed, refuse-passes}
 use Rattle.rules.proofs.Ranges.{inside}
@@ -206,7 +207,7 @@ module _ (c : Capture) (s : Cursor) (w : Within c s) where
 
   -- THE PLACE OF A REFUSAL
   pub refusal-place : {f : Fault} → stepOf c s ≡ Refused f → InPlace c f
-  unfolding stepChecks pastTheWindow bitNotAllowed valueBroken rangeOutside baseNeverSet
+  unfolding stepChecks structureChecks pastTheWindow bitNotAllowed valueBroken rangeOutside baseNeverSet
   refusal-place e =
       let h = here c s in
       ⊎-elim off-place
@@ -227,18 +228,37 @@ module _ (c : Capture) (s : Cursor) (w : Within c s) where
       (split h _ _ (x₁₂ .1))) (split h _ _ (x₁₁ .1))) (split h _ _ (x₁₀ .1))) (split h _ _ (x₉ .1))) (split h _ _ (x₈ .1))) (split h _ _ (x₇ .1)))
       (split h _ _ (x₆ .1))) (split h _ _ (refused-by c s e))
 
+-- what each check of a list says where it fails, the list says
+abbrev AllSay : {A : Type 0} → (Fault → Type 0) → List (A → Verdict) → A → Type 0
+AllSay said [] a = Unit {0}
+AllSay said (check ∷ checks) a = ((f : Fault) → check a ≡ Fails f → said f) × AllSay said checks a
+
+list-says : {A : Type 0} (said : Fault → Type 0) (checks : List (A → Verdict)) (a : A) → AllSay said checks a → (f : Fault) → firstFault checks a ≡ Fails f → said f
+list-says said [] a p f e = absurd (none-fails a e)
+list-says said (check ∷ checks) a p f e = ⊎-elim (p .0 f) (λ q. list-says said checks a (p .1) f (q .1)) (split a check checks e)
+
+-- the place 0,0
+abbrev pub AtZero : Fault → Type 0
+AtZero f = (f .window ≡ 0) × (f .index ≡ 0)
+
+zeros : (t : Bool) (reason : Reason) (f : Fault) → refuseIf t (fault reason inBatch 0) ≡ Fails f → AtZero f
+zeros t reason f q = rw (← given-fault t q .1) (refl, refl)
+
 -- the refusals that precede the walk have place 0,0
-pub window-place : (l : Lengths) {f : Fault} → windowFault l ≡ Fails f → (f .window ≡ 0) × (f .index ≡ 0)
+pub window-place : (l : Lengths) (f : Fault) → windowFault l ≡ Fails f → AtZero f
 unfolding windowFault windowChecks
-window-place l e =
-    ⊎-elim (zeros (countsWrong windowLimit (l .batch) (l .state)) WrongCounts)
-    (λ x.
-    ⊎-elim (zeros (some unaligned (listed (l .windows))) AddressUnaligned)
-    (λ y.
-    ⊎-elim (zeros (some endsTooHigh (listed (l .windows))) EndsTooHigh)
-    (λ z.
-    ⊎-elim (zeros (someTwo shareByte (listed (l .windows))) WindowsShare) (λ n. absurd (none-fails l (n .1))) (split l _ [] (z .1))) (split l _ _ (y .1)))
-    (split l _ _ (x .1))) (split l _ _ e)
-  where
-    zeros : (t : Bool) (reason : Reason) {f : Fault} → refuseIf t (fault reason inBatch 0) ≡ Fails f → (f .window ≡ 0) × (f .index ≡ 0)
-    zeros t reason q = rw (← given-fault t q .1) (refl, refl)
+window-place l =
+    list-says AtZero windowChecks l (
+      zeros (countsWrong windowLimit (l .batch) (l .state)) WrongCounts,
+      (
+        zeros (some unaligned (listed (l .windows))) AddressUnaligned,
+        (zeros (some endsTooHigh (listed (l .windows))) EndsTooHigh, (zeros (someTwo shareByte (listed (l .windows))) WindowsShare, tt)),
+      ),
+    )
+
+-- and so have those of the file's reader
+pub file-place : (o : Offer) (f : Fault) → firstFault fileChecks o ≡ Fails f → AtZero f
+unfolding fileChecks
+file-place o =
+    list-says AtZero fileChecks o
+    (zeros (sizeWrong o) FileSize, (zeros (distanceWrong o) FileDistance, (zeros (fileCountsWrong o) WrongCounts, (zeros (bufferShort o) BufferShort, tt))))

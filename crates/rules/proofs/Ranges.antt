@@ -15,15 +15,11 @@ use Rattle.rules.specs.declared.Windows.{Windows}
 use Rattle.rules.specs.declared.Allowed.the-variants.{BatchOnly, ScratchOnly, AnyWindow}
 use Rattle.rules.specs.declared.Verdict.the-variants.{Pass}
 use Rattle.rules.specs.Words.{some, someTwo}
-use Rattle.rules.specs.Windows.{Capture, windowLimit, countsWrong, unaligned, window, listed, end, windowsOf, endsTooHigh, shareByte, windowChecks, lengthsOf, Lengths, windowFault, holds, windowsAllowed, fits}
+use Rattle.rules.specs.Windows.{Capture, windowLimit, countsWrong, unaligned, window, listed, end, windowsOf, endsTooHigh, shareByte, windowChecks, lengthsOf, Lengths, windowFault, holds, Inside, windowsAllowed, fits}
 use Rattle.rules.proofs.Searching.{either, never-both, some-left, some-right, or-cases, and-left, and-right}
 use Rattle.rules.proofs.Trying.{all-pass, refuse-passes}
 
--- the bytes of a range lie in a window, by the exact sum
-pub record Inside (w : Window) (address bytes : ℕ) : Type 0 where
-  pub low : w .at ≤ address
-  pub high : address + bytes ≤ w .at + w .bytes
-
+-- a range that a window holds by the test lies in it
 pub inside : (w : Window) (address bytes : ℕ) → holds w address bytes ≡ true → Inside w address bytes
 unfolding holds
 inside w a n e = record {

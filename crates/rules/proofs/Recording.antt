@@ -1,11 +1,11 @@
 -- A record names its command: every command of the walk fits a record, and is read back from it.
 -- Assumes nothing.
-use Prim.Native.Nat.{ℕ, _+_, _*_, _/_, _%_, _^_, _≤_, _<_}
+use Prim.Native.Nat.{ℕ, zero, suc, _+_, _*_, _/_, _%_, _^_, _≤_, _<_}
 use native.Mathlib.Nat.{div-add-mod', mul-le-mul-right}
 use native.Mathlib.Omega.{arith}
-use mathlib.Core.Path.{_≡_, refl, sym, ap, _∙_}
+use mathlib.Core.Path.{_≡_, refl, sym, ap, ap₂, _∙_}
 use mathlib.Core.Bool.{Bool, true, false, cond, _&&_}
-use mathlib.Core.List.{List}
+use mathlib.Core.List.{List, [], _∷_}
 use lib.ListN.{length}
 use lib.Dec.{leb, eqb}
 use borrow.Author.Tests.{leb-true, eqb-true}
@@ -13,16 +13,25 @@ use Rattle.rules.specs.declared.Level.{Level}
 use Rattle.rules.specs.declared.Level.the-variants.{First, Second}
 use Rattle.rules.specs.declared.Cursor.{Cursor}
 use Rattle.rules.specs.declared.Command.{Command}
+use Rattle.rules.specs.declared.Base.{Base}
 use Rattle.rules.specs.declared.After.{After}
-use Rattle.rules.specs.declared.Outcome.the-variants.{Taken}
+use Rattle.rules.specs.declared.After.the-variants.{Ends, To}
+use Rattle.rules.specs.declared.Outcome.{Outcome}
+use Rattle.rules.specs.declared.Outcome.the-variants.{Taken, Refused}
+use Rattle.rules.specs.declared.Fault.{Fault}
+use Rattle.rules.specs.declared.Verdict.{Verdict}
+use Rattle.rules.specs.declared.Verdict.the-variants.{Pass, Fails}
 use Rattle.rules.specs.Words.{bit, field}
-use Rattle.rules.specs.Windows.{Capture}
+use Rattle.rules.specs.Windows.{Capture, lengthsOf, windowFault}
 use Rattle.rules.specs.Commands.{Length, one, exactly, byBit, groups, rows, rowCount, theRow, dwordCount, fieldRight, lengthOf, groupSize, lengthRight}
-use Rattle.rules.specs.Step.{levelNumber, commandAt, stepOf}
-use Rattle.rules.specs.Records.{Recordable, recordOf, commandOf}
+use Rattle.rules.specs.Step.{budget, levelNumber, commandAt, stepOf}
+use Rattle.rules.specs.Walk.{trace, cut, start, walk, commandsOf}
+use Rattle.rules.specs.Records.{Recordable, recordOf, commandOf, wordsOf, commandsIn}
 use Rattle.rules.proofs.Searching.{and-left, and-right}
 use Rattle.rules.proofs.Tables.{each, at-each, rows-counted}
 use Rattle.rules.proofs.Stepping.{passed, took}
+use Rattle.rules.proofs.Ranges.{counted}
+use Rattle.rules.proofs.Walking.{walk-sound, walk-unsound}
 
 -- a length rule that never gives 254 dwords or more behind two
 short : Length → ℕ → Bool
@@ -112,3 +121,32 @@ reads-back k r =
     let s = row-field (k .index) (k .level) (k .length) (k .row) (r .index) (r .level) (r .length) (r .row) in
     let t = length-field (k .index) (k .level) (k .length) (k .row) (r .index) (r .level) (r .length) (r .row) in
     λ i. record { index = p i; level = q i; row = s i; length = t i }
+
+-- a list of commands that fit is read back from its words
+abbrev AllRecordable : List Command → Type 0
+AllRecordable [] = Unit {0}
+AllRecordable (k ∷ ks) = Recordable k × AllRecordable ks
+
+all-read-back : (ks : List Command) → AllRecordable ks → commandsIn (wordsOf ks) ≡ ks
+unfolding wordsOf commandsIn
+all-read-back [] p = refl
+all-read-back (k ∷ ks) p = ap₂ (λ (j : Command) (js : List Command). j ∷ js) (reads-back k (p .0)) (all-read-back ks (p .1))
+
+-- every command that a run tells fits
+run-fits : (left m : ℕ) (c : Capture) (s : Cursor) (o : Outcome) → length (c .batch) ≤ 4096 → stepOf c s ≡ o → AllRecordable (commandsOf (cut m (trace left c s o)))
+unfolding trace cut commandsOf
+run-fits zero m c s o l e = tt
+run-fits (suc left) m c s (Refused f) l e = tt
+run-fits (suc left) zero c s (Taken k Ends) l e = tt
+run-fits (suc left) zero c s (Taken k (To t)) l e = tt
+run-fits (suc left) (suc m) c s (Taken k Ends) l e = (fits-record c s l e, tt)
+run-fits (suc left) (suc m) c s (Taken k (To t)) l e = (fits-record c s l e, run-fits left m c t (stepOf c t) l refl)
+
+-- THE RECORDS OF A WALK NAME ITS COMMANDS
+pub walk-read-back : (base : Base) (c : Capture) (room : ℕ) → commandsIn (wordsOf (commandsOf (walk base c room))) ≡ commandsOf (walk base c room)
+unfolding commandsOf wordsOf commandsIn
+walk-read-back base c room = by (windowFault (lengthsOf c)) refl
+  where
+    by : (v : Verdict) → windowFault (lengthsOf c) ≡ v → commandsIn (wordsOf (commandsOf (walk base c room))) ≡ commandsOf (walk base c room)
+    by Pass e = rw (walk-sound base c room e) (all-read-back _ (run-fits budget room c (start base) (stepOf c (start base)) (counted (lengthsOf c) e .batch) refl))
+    by (Fails f) e = rw (walk-unsound base c room e)

@@ -16,16 +16,16 @@ use Rattle.rules.specs.declared.Found.the-variants.{Nothing}
 use Rattle.rules.specs.declared.Fault.{Fault}
 use Rattle.rules.specs.declared.Verdict.{Verdict}
 use Rattle.rules.specs.declared.Verdict.the-variants.{Pass, Fails}
-use Rattle.rules.specs.Refusals.{firstFault}
+use Rattle.rules.specs.Refusals.{firstFault, AllPass}
 use Rattle.rules.specs.Words.{firstOf}
 use Rattle.rules.specs.Windows.{Capture, windowsOf}
 use Rattle.rules.specs.Commands.{rowCount, lengthRight, bitWrong}
 use Rattle.rules.specs.Values.{valueWrong}
 use Rattle.rules.specs.Addresses.{rangeWrong}
-use Rattle.rules.specs.Structures.{structureNowhere, structureBit, structureValue}
+use Rattle.rules.specs.Structures.{structureNowhere, structureBit, structureValue, structureChecks}
 use Rattle.rules.specs.Step.{Here, here, headerAt, rowAt, lengthAt, dwordsAt, pointerOf, nested, baseMissing, ofStructure, ranOff, unknownHeader, wrongLength, pastTheWindow, bitNotAllowed, nestedStart, valueBroken, rangeOutside, baseNeverSet, stepChecks, moveOf, commandAt, outcomeOf, stepOf}
 use Rattle.rules.proofs.Searching.{none-found}
-use Rattle.rules.proofs.Trying.{AllPass, all-pass, no-fault, refuse-passes, search-clear, fails-not-pass}
+use Rattle.rules.proofs.Trying.{all-pass, no-fault, refuse-passes, search-clear, fails-not-pass}
 
 -- what the walk does with a command that passes
 abbrev pub moveAt : Capture → Cursor → After
@@ -98,7 +98,7 @@ each-clear bad n e k h = none-found bad 0 n e k (omega arith) (omega arith)
 
 -- the checks one by one
 pub passed : (c : Capture) (s : Cursor) → firstFault stepChecks (here c s) ≡ Pass → Passed c s
-unfolding stepChecks ranOff unknownHeader wrongLength pastTheWindow bitNotAllowed nestedStart valueBroken rangeOutside baseNeverSet
+unfolding stepChecks structureChecks ranOff unknownHeader wrongLength pastTheWindow bitNotAllowed nestedStart valueBroken rangeOutside baseNeverSet
 passed c s e =
     let p = all-pass (here c s) stepChecks e in
     record {

@@ -14,11 +14,11 @@ use Rattle.rules.specs.declared.Allowed.the-variants.{BatchOnly, Scratch
 use Rattle.rules.specs.declared.Access.{Access}
 use Rattle.rules.specs.declared.Access.the-variants.{Unused, Reaches}
 use Rattle.rules.specs.Words.{bit, field, inGroup}
-use Rattle.rules.specs.Windows.{fits}
+use Rattle.rules.specs.Windows.{fits, Inside}
 use Rattle.rules.specs.Commands.{rows, theRow, groupSize, lengthOf, lengthRight}
 use Rattle.rules.specs.Values.{eightBytes, postSync}
 use Rattle.rules.specs.Addresses.{usesByRow, accessOf, accessAt, addressAt, rangeWrong}
-use Rattle.rules.proofs.Ranges.{Inside, in-batch, in-scratch}
+use Rattle.rules.proofs.Ranges.{in-batch, in-scratch}
 
 -- an address that is used and whose range is not outside fits where its rule says
 pub access-fits : (w : Windows) (r : ℕ) (d : List ℕ) (k : ℕ) {bytes : ℕ} {allowed : Allowed} → accessAt r d k ≡ Reaches bytes allowed → rangeWrong w r d k ≡ false

@@ -12,21 +12,7 @@ use Rattle.rules.specs.declared.Verdict.the-variants.{Pass, Fails}
 use Rattle.rules.specs.declared.Reason.{Reason}
 use Rattle.rules.specs.declared.Found.{Found}
 use Rattle.rules.specs.declared.Found.the-variants.{At, Nothing}
-use Rattle.rules.specs.Refusals.{tried, firstFault, refuseIf, refuseFound}
-
--- every check of a list passes
-abbrev pub AllPass : {A : Type 0} → List (A → Verdict) → A → Type 0
-AllPass [] a = Unit {0}
-AllPass (check ∷ checks) a = (check a ≡ Pass) × AllPass checks a
-
--- a check fails, and every check before it passes
-pub record FirstFault {A : Type 0} (checks : List (A → Verdict)) (a : A) (f : Fault) : Type 0 where
-  pub before : List (A → Verdict)
-  pub check : A → Verdict
-  pub after : List (A → Verdict)
-  pub order : checks ≡ before ++ (check ∷ after)
-  pub passes : AllPass before a
-  pub fails : check a ≡ Fails f
+use Rattle.rules.specs.Refusals.{tried, firstFault, refuseIf, refuseFound, AllPass, FirstFault}
 
 pub fails-not-pass : {f : Fault} → Fails f ≡ Pass → ⊥
 fails-not-pass e = let z : _≡_ {A = ℕ} 0 1 = cc in omega arith
@@ -94,6 +80,10 @@ unfolding tried
 fails-first [] check after a {f} p e = sym (ap (λ v. tried after v a) e ∙ stays-failed after f a)
 fails-first (b ∷ before) check after a p e =
     fails-first before check after a (p .1) e ∙ sym (ap (λ v. tried (before ++ (check ∷ after)) v a) (p .0))
+
+-- so a first fault is the one that trying the list gives, and there is one only
+pub first-is : {A : Type 0} {checks : List (A → Verdict)} {a : A} {f : Fault} → FirstFault checks a f → firstFault checks a ≡ Fails f
+first-is {a = a} p = ap (λ l. firstFault l a) (p .order) ∙ sym (fails-first (p .before) (p .check) (p .after) a (p .passes) (p .fails))
 
 -- a check with one place passes exactly where its condition does not hold
 pub refuse-passes : (given : Bool) (f : Fault) → refuseIf given f ≡ Pass → given ≡ false

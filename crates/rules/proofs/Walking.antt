@@ -20,12 +20,11 @@ use Rattle.rules.specs.declared.Outcome.the-variants.{Taken, Refused}
 use Rattle.rules.specs.declared.Fault.{Fault}
 use Rattle.rules.specs.declared.Verdict.{Verdict}
 use Rattle.rules.specs.declared.Verdict.the-variants.{Pass, Fails}
-use Rattle.rules.specs.declared.Reason.the-variants.{BudgetSpent, RecordsFull}
-use Rattle.rules.specs.Refusals.{inBatch, fault, tried, firstFault}
-use Rattle.rules.specs.Windows.{Capture, lengthsOf, windowFault}
-use Rattle.rules.specs.Step.{Here, here, budget, budgetSpent, recordsFull, stepChecks, checks, commandAt, stepOf}
-use Rattle.rules.specs.Walk.{Run, ended, then, trace, traceFrom, cut, start, unless, walk, Leads, stays, onward, commandsOf, endOf}
-use Rattle.rules.proofs.Trying.{AllPass, FirstFault, all-pass, first-fault, no-fault, stays-failed, tried-append, fails-not-pass, same-fault}
+use Rattle.rules.specs.Refusals.{tried, firstFault, AllPass, FirstFault}
+use Rattle.rules.specs.Windows.{Capture, Lengths, lengthsOf, windowChecks, windowFault}
+use Rattle.rules.specs.Step.{Here, here, budget, spentAt, fullAt, budgetSpent, recordsFull, stepChecks, checks, commandAt, stepOf}
+use Rattle.rules.specs.Walk.{Run, ended, then, trace, traceFrom, cut, start, unless, walk, Leads, stays, onward, commandsOf, endOf, NoFault, Complete, WalkFault}
+use Rattle.rules.proofs.Trying.{all-pass, first-fault, no-fault, stays-failed, tried-append, fails-not-pass, same-fault}
 use Rattle.rules.proofs.Stepping.{took, takes, refused-by, never-taken}
 
 -- the first fault of the checks 5 to 18 at a cursor, with n commands done and room for so many records
@@ -37,7 +36,7 @@ module _ (c : Capture) (room n : ℕ) (s : Cursor) where
   rest : List (Here → Verdict)
   rest = stepChecks ++ (recordsFull n room ∷ [])
 
-  spent-fails : budget ≤ n → budgetSpent n (here c s) ≡ Fails (fault BudgetSpent inBatch (s .at))
+  spent-fails : budget ≤ n → budgetSpent n (here c s) ≡ Fails (spentAt (s .at))
   unfolding budgetSpent
   spent-fails h = rw (le-leb _ _ h)
 
@@ -45,7 +44,7 @@ module _ (c : Capture) (room n : ℕ) (s : Cursor) where
   unfolding budgetSpent
   spent-passes h = rw (lt-leb _ _ h)
 
-  room-fails : room ≤ n → recordsFull n room (here c s) ≡ Fails (fault RecordsFull inBatch (s .at))
+  room-fails : room ≤ n → recordsFull n room (here c s) ≡ Fails (fullAt (s .at))
   unfolding recordsFull
   room-fails h = rw (le-leb _ _ h)
 
@@ -53,7 +52,7 @@ module _ (c : Capture) (room n : ℕ) (s : Cursor) where
   unfolding recordsFull
   room-passes h = rw (lt-leb _ _ h)
 
-  spent : budget ≤ n → faultAt c room n s ≡ Fails (fault BudgetSpent inBatch (s .at))
+  spent : budget ≤ n → faultAt c room n s ≡ Fails (spentAt (s .at))
   unfolding checks tried rest
   spent h = ap (λ v. tried rest v (here c s)) (spent-fails h) ∙ stays-failed rest _ _
 
@@ -68,7 +67,7 @@ module _ (c : Capture) (room n : ℕ) (s : Cursor) where
   unfolding tried
   step-passes h e = below h ∙ ap (λ v. tried (recordsFull n room ∷ []) v (here c s)) (took c s e .passes)
 
-  full : {k : Command} {a : After} → n < budget → room ≤ n → stepOf c s ≡ Taken k a → faultAt c room n s ≡ Fails (fault RecordsFull inBatch (s .at))
+  full : {k : Command} {a : After} → n < budget → room ≤ n → stepOf c s ≡ Taken k a → faultAt c room n s ≡ Fails (fullAt (s .at))
   full h r e = step-passes h e ∙ room-fails r
 
   passes : {k : Command} {a : After} → n < budget → n < room → stepOf c s ≡ Taken k a → faultAt c room n s ≡ Pass
@@ -160,7 +159,7 @@ unfolding commandAt
 index-is c s e = ap (λ (k : Command). k .index) (took c s e .command)
 
 full-stop : (c : Capture) (room n : ℕ) (s : Cursor) {k : Command} {a : After} → n < budget → room ≤ n → stepOf c s ≡ Taken k a
-    → Explained c room n s (ended (Fails (fault RecordsFull inBatch (k .index))))
+    → Explained c room n s (ended (Fails (fullAt (k .index))))
 full-stop c room n s h r e = rw (index-is c s e) (stopped c room n s _ (full c room n s h r e))
 
 -- every run of the walk, told
@@ -183,21 +182,18 @@ no-further c [] (k ∷ ks) stays e (onward q r) = absurd (never-ends (sym q ∙ 
 no-further c {u = u} (b ∷ before) (k ∷ ks) (onward p l) e (onward q r) =
     let h = no-further c {u = u} before ks l e (subst (λ (w : Cursor). Leads c w ks u) (same-way (sym q ∙ p)) r) in omega arith
 
--- THE WALK'S REFUSAL. A number of 1 to 4 comes before the walk and tells no command. Any other is the first fault, in the order of the
--- checks 5 to 18, at the cursor to which exactly the commands told lead, and every check passes at each command before it.
-pub record RefusedAt (base : Base) (c : Capture) (room : ℕ) (f : Fault) : Type 0 where
-  pub sound : windowFault (lengthsOf c) ≡ Pass
-  pub cursor : Cursor
-  pub reached : Leads c (start base) (commandsOf (walk base c room)) cursor
-  pub first : FirstFault (checks (length (commandsOf (walk base c room))) room) (here c cursor) f
-  pub earlier : (ks : List Command) (t : Cursor) → Leads c (start base) ks t → length ks < length (commandsOf (walk base c room))
-      → AllPass (checks (length ks) room) (here c t)
+-- the checks 1 to 4 pass one by one exactly where none of them is met
+pub windows-pass : (l : Lengths) → windowFault l ≡ Pass → AllPass windowChecks l
+unfolding windowFault
+windows-pass l e = all-pass l windowChecks e
 
--- THE WALK'S ACCEPTANCE: the windows are sound, and every check 5 to 18 passes at every command that is reached.
-pub record NoFault (base : Base) (c : Capture) (room : ℕ) : Type 0 where
-  pub sound : windowFault (lengthsOf c) ≡ Pass
-  pub passes : (ks : List Command) (s : Cursor) → Leads c (start base) ks s → AllPass (checks (length ks) room) (here c s)
+pub no-window-fault : (l : Lengths) → AllPass windowChecks l → windowFault l ≡ Pass
+unfolding windowFault
+no-window-fault l p = no-fault l windowChecks p
 
+-- THE WALK'S REFUSAL (`refusal`). A number of 1 to 4 comes before the walk and tells no command. Any other is the walk's first fault, and the
+-- commands told are those before it. THE WALK'S ACCEPTANCE (`accepted-passes`, `passes-accepted`, `completion`): no check faults, and the commands told
+-- are a run to the end.
 module _ (base : Base) (c : Capture) (room : ℕ) where
   run : Run
   run = cut room (traceFrom budget c (start base))
@@ -217,31 +213,31 @@ module _ (base : Base) (c : Capture) (room : ℕ) where
   counted : (m : ℕ) (s : Cursor) (v : Verdict) → faultAt c room (0 + m) s ≡ v → faultAt c room m s ≡ v
   counted m s v e = subst (λ (i : ℕ). faultAt c room i s ≡ v) (zero-add m) e
 
-  stops-told : {f : Fault} → windowFault (lengthsOf c) ≡ Pass → endOf run ≡ Fails f → RefusedAt base c room f
+  stops-told : {f : Fault} → windowFault (lengthsOf c) ≡ Pass → endOf run ≡ Fails f → WalkFault base c room (commandsOf (walk base c room)) f
   unfolding run
   stops-told {f} w e = ⊎-elim at-fault (λ q. absurd (fails-not-pass (sym e ∙ q .told))) (told .way)
     where
-      at-fault : Stops c room 0 (start base) run → RefusedAt base c room f
+      at-fault : Stops c room 0 (start base) run → WalkFault base c room (commandsOf (walk base c room)) f
       at-fault q =
           let g : q .fault ≡ f = same-fault (sym (q .told) ∙ e) in
           record {
-            sound = w;
+            sound = windows-pass (lengthsOf c) w;
             cursor = q .cursor;
             reached = rw (walk-sound w) (q .reached);
             first = rw (walk-sound w) (first-fault (here c (q .cursor)) _ f (counted _ _ _ (q .first) ∙ ap Fails g));
             earlier = λ ks t l h. all-pass (here c t) _ (counted _ t _ (told .earlier ks t l (rw (walk-sound w) at h)));
           }
 
-  pub refusal : {f : Fault} → endOf (walk base c room) ≡ Fails f → ((windowFault (lengthsOf c) ≡ Fails f) × (commandsOf (walk base c room) ≡ [])) ⊎ RefusedAt base c room f
+  pub refusal : {f : Fault} → endOf (walk base c room) ≡ Fails f → ((windowFault (lengthsOf c) ≡ Fails f) × (commandsOf (walk base c room) ≡ [])) ⊎ WalkFault base c room (commandsOf (walk base c room)) f
   unfolding run commandsOf endOf
   refusal {f} e = by (windowFault (lengthsOf c)) refl
     where
-      by : (v : Verdict) → windowFault (lengthsOf c) ≡ v → ((windowFault (lengthsOf c) ≡ Fails f) × (commandsOf (walk base c room) ≡ [])) ⊎ RefusedAt base c room f
+      by : (v : Verdict) → windowFault (lengthsOf c) ≡ v → ((windowFault (lengthsOf c) ≡ Fails f) × (commandsOf (walk base c room) ≡ [])) ⊎ WalkFault base c room (commandsOf (walk base c room)) f
       by Pass w = inr (stops-told w (rw (walk-sound w) at e))
       by (Fails g) w = inl (w ∙ rw (walk-unsound w) at e, rw (walk-unsound w))
 
   sound-told : windowFault (lengthsOf c) ≡ Pass → endOf run ≡ Pass → NoFault base c room
-  sound-told w e = record { sound = w; passes = at-each }
+  sound-told w e = record { sound = windows-pass (lengthsOf c) w; passes = at-each }
     where
       at-each : (ks : List Command) (s : Cursor) → Leads c (start base) ks s → AllPass (checks (length ks) room) (here c s)
       at-each ks s l =
@@ -259,17 +255,22 @@ module _ (base : Base) (c : Capture) (room : ℕ) where
       by Pass w = sound-told w (rw (walk-sound w) at e)
       by (Fails g) w = absurd (fails-not-pass (rw (walk-unsound w) at e))
 
+  pub accepted-sound : endOf (walk base c room) ≡ Pass → windowFault (lengthsOf c) ≡ Pass
+  accepted-sound e = no-window-fault (lengthsOf c) (accepted-passes e .sound)
+
   pub passes-accepted : NoFault base c room → endOf (walk base c room) ≡ Pass
   unfolding run
   passes-accepted n =
-      rw (walk-sound (n .sound))
+      rw (walk-sound (no-window-fault (lengthsOf c) (n .sound)))
       (⊎-elim
       (λ q. absurd (fails-not-pass (sym (counted _ _ _ (q .first)) ∙ no-fault (here c (q .cursor)) _ (n .passes _ _ (q .reached)))))
       (λ q. q .told) (told .way))
 
   -- and then the commands told lead to a batch end at level 0, the last of them
-  pub completion : endOf (walk base c room) ≡ Pass → Completes c room 0 (start base) (walk base c room)
+  pub completion : endOf (walk base c room) ≡ Pass → Complete base c (commandsOf (walk base c room))
   unfolding run
   completion e =
-      rw (walk-sound (accepted-passes e .sound))
-      (⊎-elim (λ q. absurd (fails-not-pass (sym (q .told) ∙ rw (walk-sound (accepted-passes e .sound)) at e))) (λ q. q) (told .way))
+      rw (walk-sound (accepted-sound e)) (⊎-elim (λ q. absurd (fails-not-pass (sym (q .told) ∙ rw (walk-sound (accepted-sound e)) at e))) whole (told .way))
+    where
+      whole : Completes c room 0 (start base) run → Complete base c (commandsOf run)
+      whole q = record { before = q .before; last = q .last; cursor = q .cursor; reached = q .reached; ends = q .ends; all = q .commands }

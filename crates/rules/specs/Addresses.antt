@@ -1,8 +1,9 @@
 -- Document 01, "Address rules (13)": the addresses that a command uses, in one definition.
 use Prim.Native.Nat.{ℕ, _+_, _-_, _*_, _^_}
+use mathlib.Core.Path.{_≡_, refl}
 use mathlib.Core.Bool.{Bool, false, cond, not, _&&_}
 use mathlib.Core.List.{List, [], _∷_}
-use lib.ListN.{getD}
+use lib.ListN.{length, getD}
 use lib.Dec.{eqb}
 use Rattle.rules.specs.declared.Windows.{Windows}
 use Rattle.rules.specs.declared.Allowed.the-variants.{BatchOnly, ScratchOnly, AnyWindow}
@@ -10,7 +11,7 @@ use Rattle.rules.specs.declared.Access.{Access}
 use Rattle.rules.specs.declared.Access.the-variants.{Unused, Reaches}
 use Rattle.rules.specs.Words.{bit}
 use Rattle.rules.specs.Windows.{fits}
-use Rattle.rules.specs.Commands.{spot}
+use Rattle.rules.specs.Commands.{rows, rowCount, spot}
 use Rattle.rules.specs.Values.{eightBytes, postSync}
 
 -- "Address rules (13)", place "its low dword": a use is asked of each dword of a command. It is given the command's dwords, the dword's own number,
@@ -72,6 +73,11 @@ usesByRow =
     ∷ vertexBufferUse ∷ noUse ∷ indexBufferUse
     -- 13 to 16 use none
     ∷ noUse ∷ noUse ∷ noUse ∷ noUse ∷ []
+
+-- a line for each row of the table
+pub a-use-a-row : length usesByRow ≡ rowCount
+unfolding rows rowCount usesByRow
+a-use-a-row = refl
 
 -- "row 2 target", "row 6": the uses of a row
 unfoldable pub accessOf : ℕ → Uses

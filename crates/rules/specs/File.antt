@@ -12,10 +12,11 @@ use Rattle.rules.specs.declared.Verdict.{Verdict}
 use Rattle.rules.specs.declared.Verdict.the-variants.{Pass, Fails}
 use Rattle.rules.specs.declared.Reason.the-variants.{WrongCounts, FileSize, FileDistance, BufferShort}
 use Rattle.rules.specs.declared.Answer.{Answer}
-use Rattle.rules.specs.Refusals.{inBatch, fault, refuseIf, firstFault}
+use Rattle.rules.specs.declared.Base.{Base}
+use Rattle.rules.specs.Refusals.{inBatch, fault, refuseIf, firstFault, answerWith, Told, told}
 use Rattle.rules.specs.Windows.{Capture, window, countsWrong}
-use Rattle.rules.specs.Walk.{Run, unless, walk, answerWith, answerOf}
-use Rattle.rules.specs.Records.{roomOf, writtenOf, startingBase}
+use Rattle.rules.specs.Walk.{Run, unless, walk, answerOf}
+use Rattle.rules.specs.Records.{roomOf, writtenOf}
 
 -- "Little-endian"
 abbrev pub word : List ℕ → ℕ → ℕ
@@ -60,6 +61,10 @@ pub record Offer : Type 0 where
   pub file : List ℕ
   pub batchRoom : ℕ
   pub stateRoom : ℕ
+
+-- "two lent word buffers": the same, part by part
+abbrev pub offer : List ℕ → ℕ → ℕ → Offer
+offer file batchRoom stateRoom = record { file = file; batchRoom = batchRoom; stateRoom = stateRoom }
 
 -- "1 for counts": "over 4,096", of a file
 abbrev pub fileLimit : ℕ
@@ -108,16 +113,21 @@ openedBy (Fails f) t = NotRead (f .reason)
 -- "Refusals in order": what the reader answers
 unfoldable pub openedOf : List ℕ → ℕ → ℕ → Opened
 openedOf file batchRoom stateRoom =
-    openedBy (firstFault fileChecks (record { file = file; batchRoom = batchRoom; stateRoom = stateRoom })) (trailerOf file)
+    openedBy (firstFault fileChecks (offer file batchRoom stateRoom)) (trailerOf file)
 
--- what each case of the reader's answer says: this paper's number, "place 0,0, count 0", for a refusal, and 0 for contents
+-- "place 0,0": what each case of the reader's answer says of the file
 unfoldable pub openedVerdict : Opened → Verdict
 openedVerdict (Holds contents) = Pass
 openedVerdict (NotRead reason) = Fails (fault reason inBatch 0)
 
--- "place 0,0, count 0": the same as an answer
-abbrev pub openedAnswer : Opened → Answer
-openedAnswer opened = answerWith (openedVerdict opened) 0
+-- "batch, state and scratch address .., scratch length, batch count, state count": the values of contents, and none with a refusal
+unfoldable pub numbersOf : Opened → List ℕ
+numbersOf (Holds t) = t .batch .at ∷ t .state .at ∷ t .scratch .at ∷ t .scratch .bytes ∷ t .batch .count ∷ t .state .count ∷ []
+numbersOf (NotRead reason) = []
+
+-- "a definition gives this paper's number and values for each of the enum's cases"; "place 0,0, count 0"
+abbrev pub openedTold : Opened → Told ℕ
+openedTold opened = told (openedVerdict opened) (numbersOf opened)
 
 -- "batch dwords, state dwords": n dwords of the file, from a byte on
 unfoldable pub dwordsFrom : List ℕ → ℕ → ℕ → List ℕ
@@ -145,9 +155,11 @@ unfoldable pub filledBy : Opened → List ℕ → List ℕ → List ℕ
 filledBy (Holds contents) dwords old = filled dwords old
 filledBy (NotRead reason) dwords old = old
 
--- "Each public call is promised completely". THE PROMISE of `capture::read`: its answer, and every word of the two buffers as it returns
+-- "Each public call is promised completely". THE PROMISE of `capture::read`: its answer, what that tells, which is the first fault of 19, 20, 1
+-- and 21, or else the trailer's numbers, and every word of the two buffers as it returns
 pub record FileRead (file batch state : List ℕ) (opened : Opened) (newBatch newState : List ℕ) : Type 0 where
   pub answers : opened ≡ openedOf file (length batch) (length state)
+  pub tells : openedTold opened ≡ told (firstFault fileChecks (offer file (length batch) (length state))) (numbersOf (Holds (contentsOf (trailerOf file))))
   pub batchFilled : newBatch ≡ filledBy (openedOf file (length batch) (length state)) (batchDwords file) batch
   pub stateFilled : newState ≡ filledBy (openedOf file (length batch) (length state)) (stateDwords file) state
 
@@ -165,17 +177,17 @@ captureOf file =
     }
 
 -- "Capture file and printout": the run of a file, which is its refusal by the reader, or the walk of the capture that it holds
-abbrev pub runBy : Opened → List ℕ → ℕ → Run
-runBy opened file room = unless (openedVerdict opened) (walk startingBase (captureOf file) room)
+abbrev pub runBy : Base → Opened → List ℕ → ℕ → Run
+runBy base opened file room = unless (openedVerdict opened) (walk base (captureOf file) room)
 
 -- "Capture file and printout": the run of a file, by the room of the three lent buffers
-unfoldable pub fileRun : List ℕ → ℕ → ℕ → ℕ → Run
-fileRun file batchRoom stateRoom room = runBy (openedOf file batchRoom stateRoom) file room
+unfoldable pub fileRun : Base → List ℕ → ℕ → ℕ → ℕ → Run
+fileRun base file batchRoom stateRoom room = runBy base (openedOf file batchRoom stateRoom) file room
 
--- "Each public call is promised completely". THE PROMISE of `capture::judge`: the answer for a file, and every word of the three buffers as it
--- returns
-pub record Judged (file batch state records : List ℕ) (answer : Answer) (newBatch newState newRecords : List ℕ) : Type 0 where
-  pub answers : answer ≡ answerOf (fileRun file (length batch) (length state) (roomOf (length records)))
+-- "Each public call is promised completely". THE PROMISE of `capture::judge`, whose base is the starting one: the answer for a file, and every word
+-- of the three buffers as it returns
+pub record Judged (base : Base) (file batch state records : List ℕ) (answer : Answer) (newBatch newState newRecords : List ℕ) : Type 0 where
+  pub answers : answer ≡ answerOf (fileRun base file (length batch) (length state) (roomOf (length records)))
   pub batchFilled : newBatch ≡ filledBy (openedOf file (length batch) (length state)) (batchDwords file) batch
   pub stateFilled : newState ≡ filledBy (openedOf file (length batch) (length state)) (stateDwords file) state
-  pub written : newRecords ≡ writtenOf (fileRun file (length batch) (length state) (roomOf (length records))) records
+  pub written : newRecords ≡ writtenOf (fileRun base file (length batch) (length state) (roomOf (length records))) records

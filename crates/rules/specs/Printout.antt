@@ -9,8 +9,9 @@ use lib.Dec.{ltb}
 use Rattle.rules.specs.declared.Command.{Command}
 use Rattle.rules.specs.declared.Answer.{Answer}
 use Rattle.rules.specs.Walk.{Run, commandsOf, answerOf}
-use Rattle.rules.specs.Records.{roomOf, wordsOf, commandOf}
-use Rattle.rules.specs.File.{fileLimit, fileRun}
+use Rattle.rules.specs.Records.{roomOf, wordsOf, commandOf, startingBase}
+use Rattle.rules.specs.File.{fileLimit, trailerOf, fileChecks, openedOf, openedVerdict, dwordsFrom, batchDwords, stateDwords, captureOf, fileRun}
+use Rattle.rules.specs.Book.{book}
 
 -- "in decimal": the bytes of a number, with no leading zero; so many digits at most
 unfoldable pub digitsOf : ℕ → ℕ → List ℕ
@@ -50,10 +51,24 @@ printout answer records = answerLine answer ++ recordLines records
 
 -- "The program lends 4,096 record words and prints": what it prints for a file; the two word buffers hold the largest windows
 unfoldable pub printed : List ℕ → List ℕ
-printed file = let run : Run = fileRun file fileLimit fileLimit (roomOf 4096) in printout (answerOf run) (wordsOf (commandsOf run))
+printed file =
+    let run : Run = fileRun startingBase file fileLimit fileLimit (roomOf 4096) in printout (answerOf run) (wordsOf (commandsOf run))
 
--- "For batch 00000000h, 05000000h": the document's own example, byte for byte
-pub the-example : printout (record { reason = 0; window = 0; index = 0; count = 2 }) (0x00010000 ∷ 0x01010001 ∷ []) ≡
-    bytes "reason 0 window 0 index 0 commands 2\n0 0 0 1\n1 0 1 1\n"
-unfolding digitsOf answerLine commandLine recordLines printout commandOf
+-- "For batch 00000000h, 05000000h": its file, in the windows of "Cases", with no state dword
+abbrev exampleFile : List ℕ
+exampleFile =
+    -- batch dwords
+    0x00 ∷ 0x00 ∷ 0x00 ∷ 0x00 ∷ 0x00 ∷ 0x00 ∷ 0x00 ∷ 0x05
+    -- batch, state and scratch address: 100000h, 200000h, 300000h
+    ∷ 0x00 ∷ 0x00 ∷ 0x10 ∷ 0x00 ∷ 0x00 ∷ 0x00 ∷ 0x00 ∷ 0x00
+    ∷ 0x00 ∷ 0x00 ∷ 0x20 ∷ 0x00 ∷ 0x00 ∷ 0x00 ∷ 0x00 ∷ 0x00
+    ∷ 0x00 ∷ 0x00 ∷ 0x30 ∷ 0x00 ∷ 0x00 ∷ 0x00 ∷ 0x00 ∷ 0x00
+    -- scratch length 4,096, batch count 2, state count 0, distance 48
+    ∷ 0x00 ∷ 0x10 ∷ 0x00 ∷ 0x00 ∷ 0x02 ∷ 0x00 ∷ 0x00 ∷ 0x00
+    ∷ 0x00 ∷ 0x00 ∷ 0x00 ∷ 0x00 ∷ 0x30 ∷ 0x00 ∷ 0x00 ∷ 0x00
+    ∷ []
+
+-- "For batch 00000000h, 05000000h": the document's own example, the file's bytes in and the three lines out
+pub the-example : printed exampleFile ≡ bytes "reason 0 window 0 index 0 commands 2\n0 0 0 1\n1 0 1 1\n"
+unfolding book trailerOf fileChecks openedOf openedVerdict dwordsFrom batchDwords stateDwords captureOf fileRun digitsOf answerLine commandLine recordLines printout printed
 the-example = refl

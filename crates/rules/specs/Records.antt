@@ -31,9 +31,18 @@ unfoldable pub wordsOf : List Command → List ℕ
 wordsOf [] = []
 wordsOf (c ∷ cs) = recordOf c ∷ wordsOf cs
 
+-- "index, level, row and length per record": the commands that words of records name
+unfoldable pub commandsIn : List ℕ → List Command
+commandsIn [] = []
+commandsIn (w ∷ ws) = commandOf w ∷ commandsIn ws
+
 -- "A record is one word": how many records so many words have room for
 abbrev pub roomOf : ℕ → ℕ
 roomOf words = words
+
+-- "A record is one word": how many words so many records take
+abbrev pub wordsFor : ℕ → ℕ
+wordsFor records = records
 
 -- "that many records are written, each from the first free word of the lent record buffer onward (word 0 for the first), and the words after
 -- them stay"
@@ -44,8 +53,8 @@ writtenOf run old = wordsOf (commandsOf run) ++ drop (length (wordsOf (commandsO
 abbrev pub startingBase : Base
 startingBase = Unset
 
--- "Each public call is promised completely: answer, records and every untouched word". THE PROMISE of `walk::check`: its answer, and every word
--- of the record buffer as it returns, by the walk of the capture
-pub record Checked (c : Capture) (old : List ℕ) (answer : Answer) (new : List ℕ) : Type 0 where
-  pub answers : answer ≡ answerOf (walk startingBase c (roomOf (length old)))
-  pub written : new ≡ writtenOf (walk startingBase c (roomOf (length old))) old
+-- "Each public call is promised completely: answer, records and every untouched word". THE PROMISE of `walk::check`, whose base is the starting
+-- one: its answer, and every word of the record buffer as it returns, by the walk of the capture
+pub record Checked (base : Base) (c : Capture) (old : List ℕ) (answer : Answer) (new : List ℕ) : Type 0 where
+  pub answers : answer ≡ answerOf (walk base c (roomOf (length old)))
+  pub written : new ≡ writtenOf (walk base c (roomOf (length old))) old

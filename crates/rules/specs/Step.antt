@@ -1,7 +1,7 @@
 -- Document 01, the checks 5 to 18 of one command, in their order, and "The walk": where a command leads.
 use Prim.Native.Nat.{ℕ, _+_, _*_, _^_}
 use mathlib.Core.Bool.{Bool, true, false, cond, not, _&&_}
-use mathlib.Core.List.{List, [], _∷_, _++_}
+use mathlib.Core.List.{List, [], _∷_, _++_, map}
 use lib.ListN.{length, getD, take, drop}
 use lib.Dec.{leb, ltb, eqb}
 use Rattle.rules.specs.declared.Level.{Level}
@@ -18,6 +18,7 @@ use Rattle.rules.specs.declared.Kind.the-variants.{Viewport, ColourCalc}
 use Rattle.rules.specs.declared.Pointer.{Pointer}
 use Rattle.rules.specs.declared.Pointer.the-variants.{NoPointer, PointsTo}
 use Rattle.rules.specs.declared.Reason.{Reason}
+use Rattle.rules.specs.declared.Fault.{Fault}
 use Rattle.rules.specs.declared.Verdict.{Verdict}
 use Rattle.rules.specs.declared.Verdict.the-variants.{Pass, Fails}
 use Rattle.rules.specs.declared.Reason.the-variants.{BudgetSpent, RanOff, UnknownHeader, WrongLength, PastTheWindow, BitNotAllowed, NestedStart, ValueBroken, RangeOutside, BaseNeverSet, RecordsFull}
@@ -27,7 +28,7 @@ use Rattle.rules.specs.Windows.{Capture, windowsOf, dwordOf}
 use Rattle.rules.specs.Commands.{rowCount, rowOf, lengthOf, lengthRight, bitWrong}
 use Rattle.rules.specs.Values.{valueWrong}
 use Rattle.rules.specs.Addresses.{addressAt, rangeWrong}
-use Rattle.rules.specs.Structures.{Asked, askedAt, structureNowhere, structureBit, structureValue}
+use Rattle.rules.specs.Structures.{Asked, askedAt, structureChecks}
 
 -- "A batch end": row 1, MI_BATCH_BUFFER_END
 abbrev pub endRow : ℕ
@@ -134,9 +135,13 @@ ofStructure check h = pointed check (h .capture) (at h + 1) (pointerOf (rowHere 
 abbrev pub budget : ℕ
 budget = 65536
 
--- 5: "65,536 commands done, run not ended", at the "next position"
+-- 5: at the "next position"
+abbrev pub spentAt : ℕ → Fault
+spentAt position = fault BudgetSpent inBatch position
+
+-- 5: "65,536 commands done, run not ended"
 unfoldable pub budgetSpent : ℕ → Here → Verdict
-budgetSpent done h = atHeader BudgetSpent h (leb budget done)
+budgetSpent done h = refuseIf (leb budget done) (spentAt (at h))
 
 -- 6: "position equals the batch count", at "that index". The position is never above the count (proofs/Moving), so "equals" is "is not below".
 unfoldable pub ranOff : Here → Verdict
@@ -175,11 +180,16 @@ unfoldable pub baseNeverSet : Here → Verdict
 baseNeverSet h =
     refuseIf (baseMissing (pointerOf (rowHere h) (dwordsHere h)) (h .cursor .base)) (fault BaseNeverSet inBatch (at h + 1))
 
+-- 18: at the "header"
+abbrev pub fullAt : ℕ → Fault
+fullAt header = fault RecordsFull inBatch header
+
 -- 18: "record buffer full"
 unfoldable pub recordsFull : ℕ → ℕ → Here → Verdict
-recordsFull done room h = atHeader RecordsFull h (leb room done)
+recordsFull done room h = refuseIf (leb room done) (fullAt (at h))
 
--- "5 to 18 are tried per command in this order": those that need neither the budget nor the room, 6 to 17
+-- "5 to 18 are tried per command in this order": those that need neither the budget nor the room, 6 to 17; the last three are those of a
+-- structure, in the order that `structureChecks` gives them
 unfoldable pub stepChecks : List (Here → Verdict)
 stepChecks =
     ranOff
@@ -191,10 +201,7 @@ stepChecks =
     ∷ valueBroken
     ∷ rangeOutside
     ∷ baseNeverSet
-    ∷ ofStructure structureNowhere
-    ∷ ofStructure structureBit
-    ∷ ofStructure structureValue
-    ∷ []
+    ∷ map ofStructure structureChecks
 
 -- "5 to 18 are tried per command in this order": with so many commands done, and room for so many records
 unfoldable pub checks : ℕ → ℕ → List (Here → Verdict)

@@ -1,5 +1,6 @@
 -- Document 01, "State structures".
 use Prim.Native.Nat.{ℕ}
+use mathlib.Core.Path.{_≡_}
 use mathlib.Core.Bool.{Bool, true, false, not, _&&_, _||_}
 use mathlib.Core.List.{List, [], _∷_}
 use lib.ListN.{length, getD}
@@ -15,7 +16,7 @@ use Rattle.rules.specs.declared.Verdict.{Verdict}
 use Rattle.rules.specs.declared.Verdict.the-variants.{Pass, Fails}
 use Rattle.rules.specs.declared.Reason.the-variants.{StructureNowhere, StructureBit, StructureValue}
 use Rattle.rules.specs.Words.{allowed, firstOf, inGroup}
-use Rattle.rules.specs.Refusals.{inBatch, inState, fault, refuseIf, refuseFound, firstFault}
+use Rattle.rules.specs.Refusals.{inBatch, inState, fault, refuseIf, refuseFound, firstFault, Told, told}
 use Rattle.rules.specs.Windows.{lent, heldAt, partOf}
 use Rattle.rules.specs.Commands.{anyDword}
 
@@ -139,3 +140,15 @@ unfoldable pub floatsOf : Reading → List Float
 floatsOf (Depths least greatest) = least ∷ greatest ∷ []
 floatsOf (Colour red green blue alpha) = red ∷ green ∷ blue ∷ alpha ∷ []
 floatsOf (Unreadable f) = []
+
+-- "a definition gives this paper's number and values for each of the enum's cases"
+abbrev pub readingTold : Reading → Told Float
+readingTold r = told (verdictOf r) (floatsOf r)
+
+-- "Each public call is promised completely". THE PROMISE of `structures::read`: its answer, and what that tells, which is the first fault of 15 to
+-- 17 with its place, or else the structure's floats
+pub record StructureRead (batch : List ℕ) (batchAt : ℕ) (state : List ℕ) (stateAt : ℕ) (kind : Kind) (address pointer : ℕ) (r : Reading) : Type 0 where
+  pub answers : r ≡ readAt batch batchAt state stateAt kind address pointer
+  pub tells :
+      let a : Asked = askedAt batch batchAt state stateAt kind address pointer in
+      readingTold r ≡ told (firstFault structureChecks a) (floatsOf (valuesOf kind (a .dwords)))

@@ -1,12 +1,13 @@
 -- Document 01, "Value rules (12)".
 use Prim.Native.Nat.{ℕ, _%_}
+use mathlib.Core.Path.{_≡_, refl}
 use mathlib.Core.Bool.{Bool, false, cond, not, _&&_, _||_}
 use mathlib.Core.List.{List, [], _∷_}
-use lib.ListN.{getD}
+use lib.ListN.{length, getD}
 use lib.Dec.{leb, ltb, eqb}
 use Rattle.rules.specs.Words.{bit, field, some}
 use Rattle.rules.specs.Formats.{formatBits, knownTopology, knownRegister}
-use Rattle.rules.specs.Commands.{spot}
+use Rattle.rules.specs.Commands.{rows, rowCount, spot}
 
 -- "Value rules (12)", "first such dword": a rule is asked of each dword of a command. It is given the command's dwords, which dword of its group
 -- this one is (the header is 0), and the dword itself, and answers whether the rule is broken there.
@@ -91,6 +92,11 @@ valueRules =
     ∷ vertexBufferRule ∷ vertexElementRule ∷ indexBufferRule ∷ topologyRule
     -- 14 3DSTATE_VIEWPORT_STATE_POINTERS_CC, 15 3DSTATE_CC_STATE_POINTERS, 16 3DPRIMITIVE
     ∷ noRule ∷ noRule ∷ primitiveRule ∷ []
+
+-- a line for each row of the table
+pub a-rule-a-row : length valueRules ≡ rowCount
+unfolding rows rowCount valueRules
+a-rule-a-row = refl
 
 -- "Row 2:", "Rows 3, 5, 6:": the rule of a row
 unfoldable pub ruleOf : ℕ → Rule

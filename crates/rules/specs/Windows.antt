@@ -1,5 +1,5 @@
 -- Document 01, "Windows", and the refusals 1 to 4, which precede the walk.
-use Prim.Native.Nat.{ℕ, _+_, _-_, _*_, _/_, _%_, _^_}
+use Prim.Native.Nat.{ℕ, _+_, _-_, _*_, _/_, _%_, _^_, _≤_}
 use mathlib.Core.Bool.{Bool, cond, not, _&&_, _||_}
 use mathlib.Core.List.{List, [], _∷_}
 use lib.ListN.{length, take, drop}
@@ -95,6 +95,11 @@ windowFault l = firstFault windowChecks l
 -- "all its bytes lie in one window": in this one
 unfoldable pub holds : Window → ℕ → ℕ → Bool
 holds w address bytes = leb (w .at) address && leb (address + bytes) (end w)
+
+-- "all its bytes lie in one window": the same as a statement (proofs/Ranges, `inside`, leads from the test to it)
+pub record Inside (w : Window) (address bytes : ℕ) : Type 0 where
+  pub low : w .at ≤ address
+  pub high : address + bytes ≤ end w
 
 -- "in the batch window", "in scratch", "in any window": the windows that an address rule names
 unfoldable pub windowsAllowed : Allowed → Windows → List Window

@@ -22,7 +22,7 @@ use Rattle.rules.specs.declared.Reason.the-variants.{RanOff, UnknownHeader, Wro
 use Rattle.rules.specs.Refusals.{inBatch, fault, tried, firstFault}
 use Rattle.rules.specs.Windows.{Capture, windowsOf}
 use Rattle.rules.specs.Commands.{Length, one, exactly, byBit, groups, rows, theRow, dwordCount, lengthOf, groupSize, rowCount, lengthRight}
-use Rattle.rules.specs.Structures.{structureNowhere, structureBit, structureValue}
+use Rattle.rules.specs.Structures.{structureNowhere, structureBit, structureValue, structureChecks}
 use Rattle.rules.specs.Step.{Here, here, headerAt, rowAt, lengthAt, dwordsAt, pointerOf, ofStructure, ranOff, unknownHeader, wrongLength, pastTheWindow, bitNotAllowed, nestedStart, valueBroken, rangeOutside, baseNeverSet, stepChecks, levelNumber, moveOf, commandAt, stepOf}
 use Rattle.rules.proofs.Searching.{or-cases}
 use Rattle.rules.proofs.Tables.{each, at-each, rows-counted}
@@ -134,22 +134,22 @@ module _ (c : Capture) (s : Cursor) where
 
   -- the ways out, in their order
   pub ran-off : length (c .batch) ≤ s .at → Refused (fault RanOff inBatch (s .at)) ≡ stepOf c s
-  unfolding stepChecks h
+  unfolding stepChecks structureChecks h
   ran-off l = sym (refuses c s (first-fails ranOff _ (off l)))
 
   module _ (a : s .at < length (c .batch)) where
     pub unknown-header : 17 ≤ rowAt (c .batch) (s .at) → Refused (fault UnknownHeader inBatch (s .at)) ≡ stepOf c s
-    unfolding stepChecks h
+    unfolding stepChecks structureChecks h
     unknown-header l = sym (refuses c s (first-passes ranOff _ (on a) (first-fails unknownHeader _ (unknown l))))
 
     module _ (k : rowAt (c .batch) (s .at) < 17) where
       pub wrong-length : lengthRight (rowAt (c .batch) (s .at)) (headerAt (c .batch) (s .at)) ≡ false → Refused (fault WrongLength inBatch (s .at)) ≡ stepOf c s
-      unfolding stepChecks h
+      unfolding stepChecks structureChecks h
       wrong-length e = sym (refuses c s (first-passes ranOff _ (on a) (first-passes unknownHeader _ (known k) (first-fails wrongLength _ (wrong e)))))
 
       module _ (r : lengthRight (rowAt (c .batch) (s .at)) (headerAt (c .batch) (s .at)) ≡ true) where
         pub past-the-window : length (c .batch) < s .at + lengthAt (c .batch) (s .at) → Refused (fault PastTheWindow inBatch (s .at)) ≡ stepOf c s
-        unfolding stepChecks h
+        unfolding stepChecks structureChecks h
         past-the-window l =
             sym
             (refuses c s
@@ -158,7 +158,7 @@ module _ (c : Capture) (s : Cursor) where
 
         module _ (w : s .at + lengthAt (c .batch) (s .at) ≤ length (c .batch)) where
           framed : firstFault stepChecks (here c s) ≡ orElse content structural
-          unfolding stepChecks h
+          unfolding stepChecks structureChecks h
           framed =
               first-passes ranOff _ (on a)
               (first-passes unknownHeader _ (known k) (first-passes wrongLength _ (right r) (first-passes pastTheWindow _ (whole w) (inner w))))

@@ -8,7 +8,7 @@ ghost use Rattle.rules.specs.declared.Found.the-variants.{Nothing};
 ghost use Rattle.rules.specs.Words.{firstOf};
 ghost use Rattle.rules.specs.Refusals.{fault, firstFault};
 ghost use Rattle.rules.specs.Structures.{layoutOf, structureBitWrong, structureValueWrong, depthWrong, colourWrong, single, isNan};
-ghost use Rattle.rules.specs.Structures.{nowhere, heldWindow, heldFrom, structureChecks, valuesOf, readAt};
+ghost use Rattle.rules.specs.Structures.{nowhere, heldWindow, heldFrom, structureChecks, valuesOf, StructureRead};
 use rules::Fault;
 use rules::Found;
 use rules::Held;
@@ -199,7 +199,7 @@ pub fn read<'a>(
     pointer: usize,
 ) -> Reading
     ensures { λ r. ⌜
-        r ≡ readAt (now (batch .entry)) «batch_at» (now (state .entry)) «state_at» kind address pointer
+        StructureRead (now (batch .entry)) «batch_at» (now (state .entry)) «state_at» kind address pointer r
         ⌝ }
 {
     let n = dwords_of(kind);

@@ -27,12 +27,11 @@ use Rattle.rules.specs.declared.Fault.{Fault}
 use Rattle.rules.specs.declared.Outcome.the-variants.{Taken, Refused}
 use Rattle.rules.specs.declared.Verdict.{Verdict}
 use Rattle.rules.specs.declared.Verdict.the-variants.{Pass, Fails}
-use Rattle.rules.specs.declared.Reason.the-variants.{BudgetSpent, RecordsFull}
 use Rattle.rules.specs.Words.{bit}
-use Rattle.rules.specs.Refusals.{inBatch, fault}
+use Rattle.rules.specs.Refusals.{answerWith}
 use Rattle.rules.specs.Windows.{Capture, windowsOf, lengthsOf, windowFault}
-use Rattle.rules.specs.Step.{budget, baseRow, newBase, baseAfter, levelNumber, commandAt, stepOf}
-use Rattle.rules.specs.Walk.{Run, ended, then, trace, traceFrom, cut, start, commandsOf, endOf, answerWith, answerOf}
+use Rattle.rules.specs.Step.{budget, spentAt, fullAt, baseRow, newBase, baseAfter, levelNumber, commandAt, stepOf}
+use Rattle.rules.specs.Walk.{Run, ended, then, trace, traceFrom, cut, start, commandsOf, endOf, answerOf}
 use Rattle.rules.specs.Records.{recordOf, wordsOf, roomOf, writtenOf, Checked}
 use Rattle.rules.proofs.Searching.{never-both}
 use Rattle.rules.proofs.Unique.{words-counted}
@@ -143,7 +142,7 @@ from-start {base} {s} {c} {old} {new} {r} e x = subst (λ (b : Base). Ran b c ol
 
 -- what each way out of a turn, and the turn itself, makes of it
 module _ {base : Base} {c : Capture} {old new : List ℕ} {n : ℕ} {s : Cursor} (g : Going base c old new n s) where
-  pub out-of-budget : 65536 ≤ n → Ran base c old (answerWith (Fails (fault BudgetSpent inBatch (s .at))) n) new
+  pub out-of-budget : 65536 ≤ n → Ran base c old (answerWith (Fails (spentAt (s .at))) n) new
   unfolding trace cut
   out-of-budget h = ran (rw (none-left 65536 n h) at (g .so-far))
 
@@ -151,7 +150,7 @@ module _ {base : Base} {c : Capture} {old new : List ℕ} {n : ℕ} {s : Cursor}
   unfolding trace cut
   refused h e = ran (rw (left 65536 n h, e) at (g .so-far))
 
-  no-room : {k : Command} (a : After) → n < 65536 → length new ≤ n → stepOf c s ≡ Taken k a → SoFar base c old new n (ended (Fails (fault RecordsFull inBatch (k .index))))
+  no-room : {k : Command} (a : After) → n < 65536 → length new ≤ n → stepOf c s ≡ Taken k a → SoFar base c old new n (ended (Fails (fullAt (k .index))))
   unfolding trace cut
   no-room Ends h l e = let z : length old ≤ n = omega (arith, g .same) in rw (left 65536 n h, none-left (length old) n z, e) at (g .so-far)
   no-room (To t) h l e = let z : length old ≤ n = omega (arith, g .same) in rw (left 65536 n h, none-left (length old) n z, e) at (g .so-far)
@@ -160,7 +159,7 @@ module _ {base : Base} {c : Capture} {old new : List ℕ} {n : ℕ} {s : Cursor}
   unfolding commandAt
   index-is e = ap (λ (k : Command). k .index) (took c s e .command)
 
-  pub full : {k : Command} {a : After} → n < 65536 → length new ≤ n → stepOf c s ≡ Taken k a → Ran base c old (answerWith (Fails (fault RecordsFull inBatch (s .at))) n) new
+  pub full : {k : Command} {a : After} → n < 65536 → length new ≤ n → stepOf c s ≡ Taken k a → Ran base c old (answerWith (Fails (fullAt (s .at))) n) new
   full {a = a} h l e = rw (← index-is e) (ran (no-room a h l e))
 
   pub last : {k : Command} → n < 65536 → n < length new → stepOf c s ≡ Taken k Ends → Ran base c old (answerWith Pass (n + 1)) (set new n (recordOf k))
@@ -182,7 +181,7 @@ module _ {base : Base} {c : Capture} {old new : List ℕ} {n : ℕ} {s : Cursor}
   pub stops : (f : Fault) → (n < 65536 → Ran base c old (answerWith (Fails f) n) new) → Ran base c old (answerWith (Fails (stopFor f (s .at) n)) n) new
   stops f h = by (eqb n 65536) refl
     where
-      by : (t : Bool) → eqb n 65536 ≡ t → Ran base c old (answerWith (Fails (cond t (fault BudgetSpent inBatch (s .at)) f)) n) new
+      by : (t : Bool) → eqb n 65536 ≡ t → Ran base c old (answerWith (Fails (cond t (spentAt (s .at)) f)) n) new
       by true e = out-of-budget g (omega (arith, eqb-true n 65536 e))
       by false e = h (let m = eqb-false n 65536 e in omega (arith, g .budgeted))
 
@@ -214,14 +213,14 @@ module _ {base : Base} {c : Capture} {old new : List ℕ} {n : ℕ} {s : Cursor}
       ⊎-elim (λ q. (omega (arith, q .0), omega (arith, q .1), omega arith)) (λ q. (omega (arith, q .0), omega (arith, q .1), omega arith)) (refusal-place c s (g .within) e)
 
 -- behind the checks 1 to 4: the promise of the public call
-pub unsound : (c : Capture) (old : List ℕ) {f : Fault} → windowFault (lengthsOf c) ≡ Fails f → Checked c old (answerWith (Fails f) 0) old
+pub unsound : (c : Capture) (old : List ℕ) {f : Fault} → windowFault (lengthsOf c) ≡ Fails f → Checked Unset c old (answerWith (Fails f) 0) old
 unfolding answerOf writtenOf commandsOf endOf wordsOf
 unsound c old e = record {
   answers = rw (walk-unsound Unset c (roomOf (length old)) e);
   written = rw (walk-unsound Unset c (roomOf (length old)) e);
 }
 
-pub sound : (c : Capture) (old : List ℕ) {r : Answer} {new : List ℕ} → windowFault (lengthsOf c) ≡ Pass → Ran Unset c old r new → Checked c old r new
+pub sound : (c : Capture) (old : List ℕ) {r : Answer} {new : List ℕ} → windowFault (lengthsOf c) ≡ Pass → Ran Unset c old r new → Checked Unset c old r new
 sound c old e p = record {
   answers = rw (walk-sound Unset c (roomOf (length old)) e) (p .answers);
   written = rw (walk-sound Unset c (roomOf (length old)) e) (p .written);

@@ -10,10 +10,8 @@ use Rattle.rules.specs.declared.Answer.{Answer}
 use Rattle.rules.specs.declared.Level.{Level}
 use Rattle.rules.specs.declared.Level.the-variants.{First, Second}
 use Rattle.rules.specs.declared.Fault.{Fault}
-use Rattle.rules.specs.declared.Reason.the-variants.{BudgetSpent}
-use Rattle.rules.specs.Refusals.{inBatch, fault}
 use Rattle.rules.specs.Windows.{Capture}
-use Rattle.rules.specs.Step.{budget}
+use Rattle.rules.specs.Step.{budget, spentAt}
 use Rattle.rules.specs.Walk.{traceFrom, cut, start, answerOf}
 use Rattle.rules.specs.Records.{roomOf, writtenOf}
 
@@ -29,7 +27,7 @@ keptAt (Second back) = back
 
 -- why the run stops at a command that is not taken for this fault: behind the last command of the budget it is the budget's
 abbrev pub stopFor : Fault → ℕ → ℕ → Fault
-stopFor f at n = cond (eqb n budget) (fault BudgetSpent inBatch at) f
+stopFor f at n = cond (eqb n budget) (spentAt at) f
 
 -- what the loop promises: the walk behind the checks 1 to 4
 pub record Ran (base : Base) (c : Capture) (old : List ℕ) (answer : Answer) (new : List ℕ) : Type 0 where

@@ -2,8 +2,7 @@
 ghost use mathlib.Core.Path.{_≡_};
 ghost use Prim.Native.Nat.{_^_, _<_};
 ghost use Rattle.rules.specs.declared.Verdict.the-variants.{Pass, Fails};
-ghost use Rattle.rules.specs.Refusals.{numberOf};
-ghost use Rattle.rules.specs.Walk.{answerWith};
+ghost use Rattle.rules.specs.Refusals.{numberOf, answerWith};
 use rules::Answer;
 use rules::Fault;
 use rules::Reason;

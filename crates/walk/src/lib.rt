@@ -3,13 +3,12 @@ ghost use mathlib.Core.Path.{_≡_};
 ghost use Prim.Native.Nat.{_^_, _≤_, _<_};
 ghost use lib.ListN.{length};
 ghost use lib.Dec.{eqb};
-ghost use Rattle.rules.specs.declared.Reason.the-variants.{BudgetSpent, RecordsFull};
 ghost use Rattle.rules.specs.declared.Verdict.the-variants.{Fails};
-ghost use Rattle.rules.specs.Refusals.{fault, inBatch};
+ghost use Rattle.rules.specs.Refusals.{answerWith};
 ghost use Rattle.rules.specs.Windows.{windowsOf};
-ghost use Rattle.rules.specs.Step.{budget, levelNumber};
-ghost use Rattle.rules.specs.Walk.{start, answerWith};
-ghost use Rattle.rules.specs.Records.{Checked};
+ghost use Rattle.rules.specs.Step.{budget, spentAt, fullAt, levelNumber};
+ghost use Rattle.rules.specs.Walk.{start};
+ghost use Rattle.rules.specs.Records.{startingBase, Checked};
 ghost use Rattle.step.specs.Parts.{captured, Fitted, SmallBase};
 ghost use Rattle.walk.specs.Lent.{captureOf, keptAt, stopFor, Ran};
 use answers::acceptance;
@@ -158,7 +157,7 @@ fn fresh(s: Cursor) -> Cursor
 
 // There is no room for the record of the command at the position.
 fn full(at: usize) -> Fault
-    ensures { λ r. ⌜ r ≡ fault RecordsFull inBatch at ⌝ }
+    ensures { λ r. ⌜ r ≡ fullAt at ⌝ }
 {
     Fault {
         reason: Reason::RecordsFull,
@@ -169,7 +168,7 @@ fn full(at: usize) -> Fault
 
 // The budget is spent, and the run has come to the position.
 fn spent(at: usize) -> Fault
-    ensures { λ r. ⌜ r ≡ fault BudgetSpent inBatch at ⌝ }
+    ensures { λ r. ⌜ r ≡ spentAt at ⌝ }
 {
     Fault {
         reason: Reason::BudgetSpent,
@@ -209,7 +208,7 @@ pub fn check<'a>(
     scratch_len: u32,
     records: &mut [u32],
 ) -> Answer
-    ensures { λ r. ⌜ Checked (captureOf (now (batch .entry)) «batch_at» (now (state .entry)) «state_at» «scratch_at» «scratch_len») (now (records .entry)) r (now (records .exit)) ⌝ }
+    ensures { λ r. ⌜ Checked startingBase (captureOf (now (batch .entry)) «batch_at» (now (state .entry)) «state_at» «scratch_at» «scratch_len») (now (records .entry)) r (now (records .exit)) ⌝ }
 {
     let w = windows_of(batch, batch_at, state, state_at, scratch_at, scratch_len);
     if let Verdict::Fails(f) = windows::sound(batch.len(), state.len(), w) {

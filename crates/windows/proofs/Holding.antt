@@ -8,9 +8,9 @@ use native.Mathlib.Omega.{arith}
 use borrow.Author.Tests.{eqb-true}
 use Rattle.rules.specs.declared.Window.{Window}
 use Rattle.rules.specs.declared.Held.the-variants.{InBatch, InState, Nowhere}
-use Rattle.rules.specs.Windows.{lent, holds, holdsDwords, dwordOf, heldAt}
+use Rattle.rules.specs.Windows.{lent, holds, Inside, holdsDwords, dwordOf, heldAt}
 use Rattle.rules.proofs.Searching.{either, and-left, and-right}
-use Rattle.rules.proofs.Ranges.{Inside, inside}
+use Rattle.rules.proofs.Ranges.{inside}
 
 module _ (w : Window) (address n : ℕ) where
   -- a window of 64-bit length holds no more dwords than 64 bits can count the bytes of

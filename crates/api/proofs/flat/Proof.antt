@@ -1,6 +1,8 @@
 -- `api::flat` meets its contract, by the two cases of an answer.
 -- Assumes nothing.
 use mathlib.Core.Path.{subst}
+use Rattle.rules.specs.Refusals.{answerWith, told}
+use Rattle.rules.specs.File.{openedVerdict, numbersOf}
 use Rattle.api.specs.Read.{Small, SmallContents, flatOf}
 use borrow.Author.Needs.{needs}
 use Rattle.api.proofs.flat.Statement.{statement}
@@ -25,11 +27,11 @@ cast-t8 : tie.Need-cast-t8
 cast-t8 c = let h : SmallContents (c .before .before .before .before .opened2 .given .0 .0) = subst Small (c .before .before .before .before .opened2 .given .1) (c .before .before .before .before .before .before .pre) in record { fits = h .scratch }
 
 returns : tie.Need-returns
-unfolding flatOf
+unfolding flatOf openedVerdict numbersOf told answerWith
 returns c = rw (c .before .before .opened .given .1, c .number .ensures)
 
 returns-2 : tie.Need-returns-2
-unfolding flatOf
+unfolding flatOf openedVerdict numbersOf told answerWith
 returns-2 c = rw (c .before .before .before .before .opened2 .given .1)
 
 pub flat-spec : {M : Type 1} → statement M

@@ -2,7 +2,7 @@
 -- Assumes nothing.
 use borrow.Author.Needs.{needs}
 use Rattle.rules.specs.File.{openedVerdict}
-use Rattle.rules.specs.Walk.{answerWith}
+use Rattle.rules.specs.Refusals.{answerWith, told}
 use Rattle.capture.proofs.refusal.Statement.{statement}
 use Rattle.capture.proofs.refusal.Tie as tie
 
@@ -10,7 +10,7 @@ number-requires : tie.Need-number-requires
 number-requires c κs = search needs
 
 returns : tie.Need-returns
-unfolding openedVerdict answerWith
+unfolding openedVerdict told answerWith
 returns c = rw (c .number .ensures)
 
 pub refusal-spec : {M : Type 1} → statement M

@@ -2,6 +2,7 @@
 -- Assumes nothing.
 use mathlib.Core.Path.{sym, _∙_}
 use borrow.Author.Needs.{needs}
+use Rattle.rules.proofs.Readings.{structure-read}
 use Rattle.structures.proofs.Judging.{values-well}
 use Rattle.structures.proofs.Reading.{ends-below, reading-is}
 use Rattle.structures.proofs.read.Statement.{statement}
@@ -17,15 +18,17 @@ values-requires c κs = values-well _ (sym (c .before .before .judged .ensures) 
 returns : tie.Need-returns
 returns c =
     let j = c .before .before .before in
-    c .values .ensures
+    rw (c .values .ensures
     ∙ reading-is _ _ _ _ _ _ _ (j .before .before .before .dwords-of .ensures) (j .before .before .held-in .ensures)
-    (j .before .structure .ensures) (sym (c .before .enum-told .given .1) ∙ j .judged .ensures)
+    (j .before .structure .ensures) (sym (c .before .enum-told .given .1) ∙ j .judged .ensures))
+    (structure-read _ _ _ _ _ _ _)
 
 returns-2 : tie.Need-returns-2
 returns-2 c =
     let j = c .before .before .before in
-    reading-is _ _ _ _ _ _ _ (j .before .before .before .dwords-of .ensures) (j .before .before .held-in .ensures)
-    (j .before .structure .ensures) (sym (c .before .f .given .1) ∙ j .judged .ensures)
+    rw (reading-is _ _ _ _ _ _ _ (j .before .before .before .dwords-of .ensures) (j .before .before .held-in .ensures)
+    (j .before .structure .ensures) (sym (c .before .f .given .1) ∙ j .judged .ensures))
+    (structure-read _ _ _ _ _ _ _)
 
 pub read-spec : {M : Type 1} → statement M
 read-spec =

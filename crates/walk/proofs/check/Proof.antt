@@ -21,7 +21,7 @@ enum-known-f : tie.Need-enum-known-f
 enum-known-f c = search needs
 
 refusal-requires : tie.Need-refusal-requires
-refusal-requires c κs = let p = window-place _ (judged (captureOf (c .before .before .before .before .before .before .before .before .args .batch .now) (c .before .before .before .before .before .before .before .before .args .batch-at) (c .before .before .before .before .before .before .before .before .args .state .now) (c .before .before .before .before .before .before .before .before .args .state-at) (c .before .before .before .before .before .before .before .before .args .scratch-at) (c .before .before .before .before .before .before .before .before .args .scratch-len)) (c .before .before .before .before .windows-of .ensures) (c .before .before .before .sound .ensures) ∙ c .before .f .given .1) in (omega (arith, p .0), omega (arith, p .1), search needs)
+refusal-requires c κs = let p = window-place _ _ (judged (captureOf (c .before .before .before .before .before .before .before .before .args .batch .now) (c .before .before .before .before .before .before .before .before .args .batch-at) (c .before .before .before .before .before .before .before .before .args .state .now) (c .before .before .before .before .before .before .before .before .args .state-at) (c .before .before .before .before .before .before .before .before .args .scratch-at) (c .before .before .before .before .before .before .before .before .args .scratch-len)) (c .before .before .before .before .windows-of .ensures) (c .before .before .before .sound .ensures) ∙ c .before .f .given .1) in (omega (arith, p .0), omega (arith, p .1), search needs)
 
 returns : tie.Need-returns
 returns c = rw (c .refusal .ensures) (unsound _ _ (judged (captureOf (c .before .before .before .before .before .before .before .before .before .args .batch .now) (c .before .before .before .before .before .before .before .before .before .args .batch-at) (c .before .before .before .before .before .before .before .before .before .args .state .now) (c .before .before .before .before .before .before .before .before .before .args .state-at) (c .before .before .before .before .before .before .before .before .before .args .scratch-at) (c .before .before .before .before .before .before .before .before .before .args .scratch-len)) (c .before .before .before .before .before .windows-of .ensures) (c .before .before .before .before .sound .ensures) ∙ c .before .before .f .given .1))

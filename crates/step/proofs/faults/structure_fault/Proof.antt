@@ -42,7 +42,7 @@ returns-2 : tie.Need-returns-2
 returns-2 c = c .fails .ensures ∙ unbased _ _ _ _ (c .before .before .before .before .pointer .given .1) (c .before .enum-told2 .given .1)
 
 returns-3 : tie.Need-returns-3
-returns-3 c = c .verdict-of .ensures ∙ ap verdictOf (c .before .read .ensures) ∙ read _ _ _ _ (c .before .before .before .before .before .before .pointer .given .1) (c .before .before .before .base .given .1)
+returns-3 c = c .verdict-of .ensures ∙ ap verdictOf (c .before .read .ensures .answers) ∙ read _ _ _ _ (c .before .before .before .before .before .before .pointer .given .1) (c .before .before .before .base .given .1)
 
 pub structure-fault-spec : {M : Type 1} → statement M
 structure-fault-spec =

@@ -1,7 +1,7 @@
 -- `walk::answers::acceptance` meets its contract.
 -- Assumes nothing.
 use mathlib.Core.Path.{refl}
-use Rattle.rules.specs.Walk.{answerWith}
+use Rattle.rules.specs.Refusals.{answerWith}
 use borrow.Author.Needs.{needs}
 use Rattle.walk.proofs.answers.acceptance.Statement.{statement}
 use Rattle.walk.proofs.answers.acceptance.Tie as tie

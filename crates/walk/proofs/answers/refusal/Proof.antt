@@ -1,6 +1,6 @@
 -- `walk::answers::refusal` meets its contract.
 -- Assumes nothing.
-use Rattle.rules.specs.Walk.{answerWith}
+use Rattle.rules.specs.Refusals.{answerWith}
 use borrow.Author.Needs.{needs}
 use Rattle.walk.proofs.answers.refusal.Statement.{statement}
 use Rattle.walk.proofs.answers.refusal.Tie as tie
