@@ -1,9 +1,10 @@
 /*
- * What the proved check costs beside the second opinion, on the same captures in one run.
- *   bench ROUNDS ROOM        instructions of each call, counted by the trap flag, and the least time of ROUNDS short rounds;
- *                            ROOM is for how many records: it cuts the loop short, and nothing else if it is at least 4,096
- * The instructions are exact, and the same in every run. The times are of this machine, or its emulator, and of its mood: hence
- * the least of many rounds, and the ratio.
+ * What each proved engine costs beside the second opinion, on the same captures in one run.
+ *   bench ROUNDS ROOM        instructions of each call, counted by the trap flag, and the least time of ROUNDS short rounds, or no
+ *                            time if that is 0; ROOM is for how many records: it cuts the loop short, and nothing else if it
+ *                            is at least 4,096
+ * The instructions are exact, and the same in every run. The times are of this machine and of its mood: hence the least of many
+ * rounds, and the ratio.
  */
 #include "../compare/checker.h"
 
@@ -138,6 +139,12 @@ static const struct {
 typedef struct lungevati_answer check_call(const uint32_t *, size_t, uint64_t, const uint32_t *, size_t, uint64_t,
                                            uint64_t, uint32_t, uint32_t *, size_t);
 
+/* The proved engines. bench/figures has a row for each of them and each capture. */
+static const struct engine {
+    const char *name;
+    check_call *check;
+} engines[] = {{"check", lungevati_check}};
+
 static volatile uint32_t sink;
 
 static struct lungevati_answer ask(check_call *check)
@@ -186,14 +193,14 @@ static double timed(check_call *check, int calls)
 }
 
 /* The least of many rounds, each shorter than what another process takes at a time; the two in turn, either one first. */
-static double time_ratio(uint64_t rounds, double *proved)
+static double time_ratio(check_call *check, uint64_t rounds, double *proved)
 {
     double least[2] = {1e30, 1e30};
     int calls = 1;
-    while (timed(lungevati_check, calls) * calls < 2e5 && calls < 1 << 20) calls *= 2;
+    while (timed(check, calls) * calls < 2e5 && calls < 1 << 20) calls *= 2;
     for (uint64_t k = 0; k < 2 * rounds; k++) {
         int which = (int)((k + k / 2) % 2);
-        double t = timed(which ? other_check : lungevati_check, calls);
+        double t = timed(which ? other_check : check, calls);
         if (t < least[which]) least[which] = t;
     }
     *proved = least[0];
@@ -202,30 +209,38 @@ static double time_ratio(uint64_t rounds, double *proved)
 
 /* ---- The table ---- */
 
-static int same_answers(const char *name, uint64_t *count, uint64_t *dwords)
+static int same_answers(const struct engine *engine, const char *name, uint64_t *count, uint64_t *dwords)
 {
-    struct lungevati_answer p = ask(lungevati_check), o = ask(other_check);
+    struct lungevati_answer p = ask(engine->check), o = ask(other_check);
     *count = o.count;
     *dwords = 0;
     for (uint32_t i = 0; i < o.count; i++) *dwords += records[i] >> 16 & 0xFF;
     if (p.reason == o.reason && p.window == o.window && p.index == o.index && p.count == o.count && o.count > 0) return 1;
-    printf("%s: proved %u %u %u %u, C %u %u %u %u\n", name, p.reason, p.window, p.index, p.count, o.reason, o.window,
-           o.index, o.count);
+    printf("%s, %s: proved %u %u %u %u, C %u %u %u %u\n", engine->name, name, p.reason, p.window, p.index, p.count, o.reason,
+           o.window, o.index, o.count);
     return 0;
 }
 
-static int measure(const char *name, void (*make)(void), uint64_t rounds)
+static void print_head(uint64_t rounds)
+{
+    printf("%42s |    instructions a call     |    a command      |     a dword%s\n", "", rounds ? "     |  least time" : "");
+    printf("%-8s %-16s commands  dwords |    proved         C  ratio |   proved        C |  proved       C%s\n", "engine",
+           "capture", rounds ? " |  ratio  proved ns" : "");
+}
+
+static int measure(const struct engine *engine, const char *name, uint64_t rounds)
 {
     uint64_t count, dwords;
-    double proved_time, ratio;
-    batch_len = 0;
-    make();
-    if (!same_answers(name, &count, &dwords)) return 0;
-    double p = (double)instructions(lungevati_check), c = (double)instructions(other_check);
+    if (!same_answers(engine, name, &count, &dwords)) return 0;
+    double p = (double)instructions(engine->check), c = (double)instructions(other_check);
     double n = (double)count, d = (double)dwords;
-    ratio = time_ratio(rounds, &proved_time);
-    printf("%-16s %8.0f %7.0f | %9.0f %9.0f %6.3f | %8.2f %8.2f | %7.2f %7.2f | %6.3f %10.0f\n", name, n, d, p, c, p / c,
-           p / n, c / n, p / d, c / d, ratio, proved_time);
+    printf("%-8s %-16s %8.0f %7.0f | %9.0f %9.0f %6.3f | %8.2f %8.2f | %7.2f %7.2f", engine->name, name, n, d, p, c, p / c,
+           p / n, c / n, p / d, c / d);
+    if (rounds) {
+        double proved_time, ratio = time_ratio(engine->check, rounds, &proved_time);
+        printf(" | %6.3f %10.0f", ratio, proved_time);
+    }
+    printf("\n");
     return 1;
 }
 
@@ -236,10 +251,12 @@ int main(int n, char **v)
     room = strtoul(v[2], 0, 10);
     if (room > BUDGET) room = BUDGET;
     signal(SIGTRAP, step);
-    printf("%33s |    instructions a call     |    a command      |     a dword     |  least time\n", "");
-    printf("%-16s commands  dwords |    proved         C  ratio |   proved        C |  proved       C |  ratio  proved ns\n",
-           "capture");
-    for (uint32_t i = 0; i < sizeof captures / sizeof captures[0]; i++)
-        if (!measure(captures[i].name, captures[i].make, rounds)) return 1;
+    print_head(rounds);
+    for (uint32_t i = 0; i < sizeof captures / sizeof captures[0]; i++) {
+        batch_len = 0;
+        captures[i].make();
+        for (uint32_t e = 0; e < sizeof engines / sizeof engines[0]; e++)
+            if (!measure(&engines[e], captures[i].name, rounds)) return 1;
+    }
     return 0;
 }
