@@ -5,6 +5,7 @@ ghost use Rattle.walk.specs.Lent.{captureOf};
 ghost use Rattle.api.specs.Read.{Small, flatOf, ReadOut};
 use rules::Answer;
 use rules::Opened;
+use rules::faults::number;
 
 // Checks a capture: `walk::check`, with its promise.
 #[no_mangle]
@@ -52,7 +53,7 @@ fn flat(opened: Opened) -> FileContents
 {
     match opened {
         Opened::NotRead(reason) => FileContents {
-            reason: walk::answers::number(reason),
+            reason: number(reason),
             window: 0,
             index: 0,
             count: 0,

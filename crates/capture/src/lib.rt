@@ -5,7 +5,7 @@ use rules::Filled;
 use rules::Opened;
 use rules::Reason;
 use rules::Window;
-use walk::answers::number;
+use rules::faults::number;
 ghost use mathlib.Core.Path.{_≡_};
 ghost use Prim.Native.Nat.{_+_, _-_, _*_, _≤_, _<_};
 ghost use lib.ListN.{length};

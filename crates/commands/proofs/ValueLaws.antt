@@ -11,8 +11,9 @@ use borrow.Author.Tests.{eq-eqb, ne-eqb, lt-ltb, le-ltb}
 use Rattle.rules.specs.Words.{bit, field, some}
 use Rattle.rules.specs.Formats.{surfaceFormats, formatBits}
 use Rattle.rules.specs.declared.Access.the-variants.{Unused}
+use Rattle.rules.specs.Commands.{rowCount}
+use Rattle.rules.specs.Uses.{Uses, noUse, usesByRow, accessOf}
 use Rattle.rules.specs.Values.{Rule, noRule, afterZero, componentsWrong, primitiveRule, valueRules, ruleOf}
-use Rattle.rules.specs.Addresses.{Uses, noUse, usesByRow, accessOf}
 
 -- the controls behind the first: a 0 that something follows
 module _ (b c d : ℕ) where
@@ -67,14 +68,14 @@ unfolding formatBits
 unknown-format table code e = rw (e, Bool·not-not)
 
 -- a primitive's dwords behind the first: 3, 5 and 6
-pub behind-first : (d : List ℕ) (j w : ℕ) → getD d 1 0 / 512 % 2 ≡ 1 → (j ≡ 1 → ⊥) → (w ≡ 0 → ⊥) → (j ≡ 3 → ⊥) → (j ≡ 5 → ⊥) → eqb j 6 ≡ primitiveRule d j w
-behind-first d j w b n m o p = simp (eq-eqb _ 1 b, ne-eqb j 1 n, ne-eqb w 0 m, ne-eqb j 3 o, ne-eqb j 5 p, and-true)
+pub behind-first : (d : List ℕ) (k j w : ℕ) → getD d 1 0 / 512 % 2 ≡ 1 → (j ≡ 1 → ⊥) → (w ≡ 0 → ⊥) → (j ≡ 3 → ⊥) → (j ≡ 5 → ⊥) → eqb j 6 ≡ primitiveRule d k j w
+behind-first d k j w b n m o p = simp (eq-eqb _ 1 b, ne-eqb j 1 n, ne-eqb w 0 m, ne-eqb j 3 o, ne-eqb j 5 p, and-true)
 
 -- past the table's end there is no rule, and no use
-pub no-rule : (r : ℕ) (d : List ℕ) (j w : ℕ) → 17 ≤ r → false ≡ ruleOf r d j w
+pub no-rule : (r : ℕ) (d : List ℕ) (k j w : ℕ) → rowCount ≤ r → false ≡ ruleOf r d k j w
 unfolding ruleOf valueRules
-no-rule r d j w h = rw (List·getD-eq-default {A = Rule} valueRules noRule h)
+no-rule r d k j w h = rw (List·getD-eq-default {A = Rule} valueRules noRule h)
 
-pub no-access : (r : ℕ) (d : List ℕ) (k j : ℕ) → 17 ≤ r → Unused ≡ accessOf r d k j
+pub no-access : (r : ℕ) (d : List ℕ) (k j w : ℕ) → rowCount ≤ r → Unused ≡ accessOf r d k j w
 unfolding accessOf usesByRow
-no-access r d k j h = rw (List·getD-eq-default {A = Uses} usesByRow noUse h)
+no-access r d k j w h = rw (List·getD-eq-default {A = Uses} usesByRow noUse h)

@@ -2,14 +2,31 @@
 ghost use mathlib.Core.Path.{_≡_};
 ghost use mathlib.Core.List.{[], _∷_};
 ghost use Prim.Native.Nat.{_-_, _<_};
-ghost use lib.ListN.{length};
-ghost use Rattle.rules.specs.Addresses.{startUse, storeUse, storeRegisterUse, loadRegisterUse, pipeUse, vertexBufferUse, indexBufferUse, accessOf, accessWrong, sized};
+ghost use lib.ListN.{length, getD};
+ghost use Rattle.rules.specs.Uses.{startUse, storeUse, storeRegisterUse, loadRegisterUse, pipeUse, vertexBufferUse, indexBufferUse, accessOf, sized};
 use crate::dwords::dword;
 use rules::Access;
 use rules::Allowed;
+use rules::names::BASE_ROW;
+use rules::names::COLOUR_ROW;
+use rules::names::END_ROW;
+use rules::names::INDEX_BUFFER_ROW;
+use rules::names::LOAD_REGISTER_ROW;
+use rules::names::NOOP_ROW;
+use rules::names::PIPE_ROW;
+use rules::names::PRIMITIVE_ROW;
+use rules::names::SELECT_ROW;
+use rules::names::SET_REGISTERS_ROW;
+use rules::names::START_ROW;
+use rules::names::STORE_REGISTER_ROW;
+use rules::names::STORE_ROW;
+use rules::names::TOPOLOGY_ROW;
+use rules::names::VERTEX_BUFFERS_ROW;
+use rules::names::VERTEX_ELEMENTS_ROW;
+use rules::names::VIEWPORT_ROW;
 
 fn start_use(j: usize) -> Access
-    ensures { λ r. ⌜ r ≡ startUse [] 0 j ⌝ }
+    ensures { λ r. ⌜ r ≡ startUse [] 0 j 0 ⌝ }
 {
     if j == 1 {
         Access::Reaches(4, Allowed::BatchOnly)
@@ -19,7 +36,7 @@ fn start_use(j: usize) -> Access
 }
 
 pub fn store_use(command: &[u32], j: usize) -> Access
-    ensures { λ r. ⌜ r ≡ storeUse (now (command .entry)) 0 j ⌝ }
+    ensures { λ r. ⌜ r ≡ storeUse (now (command .entry)) 0 j 0 ⌝ }
 {
     if j != 1 {
         return Access::Unused;
@@ -32,7 +49,7 @@ pub fn store_use(command: &[u32], j: usize) -> Access
 }
 
 fn store_register_use(j: usize) -> Access
-    ensures { λ r. ⌜ r ≡ storeRegisterUse [] 0 j ⌝ }
+    ensures { λ r. ⌜ r ≡ storeRegisterUse [] 0 j 0 ⌝ }
 {
     if j == 2 {
         Access::Reaches(4, Allowed::ScratchOnly)
@@ -42,7 +59,7 @@ fn store_register_use(j: usize) -> Access
 }
 
 fn load_register_use(j: usize) -> Access
-    ensures { λ r. ⌜ r ≡ loadRegisterUse [] 0 j ⌝ }
+    ensures { λ r. ⌜ r ≡ loadRegisterUse [] 0 j 0 ⌝ }
 {
     if j == 2 {
         Access::Reaches(4, Allowed::AnyWindow)
@@ -52,7 +69,7 @@ fn load_register_use(j: usize) -> Access
 }
 
 pub fn pipe_use(command: &[u32], j: usize) -> Access
-    ensures { λ r. ⌜ r ≡ pipeUse (now (command .entry)) 0 j ⌝ }
+    ensures { λ r. ⌜ r ≡ pipeUse (now (command .entry)) 0 j 0 ⌝ }
 {
     if j != 2 {
         return Access::Unused;
@@ -83,7 +100,7 @@ fn before(k: usize) -> usize
 
 // The range of a vertex buffer, by the first of its dwords and the last.
 pub fn vertex_buffer_range(flags: u32, size: u32) -> Access
-    ensures { λ r. ⌜ r ≡ vertexBufferUse (flags ∷ 0 ∷ 0 ∷ size ∷ []) 1 2 ⌝ }
+    ensures { λ r. ⌜ r ≡ vertexBufferUse (flags ∷ 0 ∷ 0 ∷ size ∷ []) 1 2 0 ⌝ }
 {
     if flags / 0x2000 % 2 == 1 {
         return Access::Unused;
@@ -96,7 +113,7 @@ pub fn vertex_buffer_range(flags: u32, size: u32) -> Access
 
 fn vertex_buffer_use(command: &[u32], k: usize, j: usize) -> Access
     requires { ⌜ k < length (now command) ⌝ }
-    ensures { λ r. ⌜ r ≡ vertexBufferUse (now (command .entry)) k j ⌝ }
+    ensures { λ r. ⌜ r ≡ vertexBufferUse (now (command .entry)) k j 0 ⌝ }
 {
     if j != 2 {
         return Access::Unused;
@@ -106,7 +123,7 @@ fn vertex_buffer_use(command: &[u32], k: usize, j: usize) -> Access
 
 pub fn index_buffer_use(command: &[u32], k: usize, j: usize) -> Access
     requires { ⌜ k < length (now command) ⌝ }
-    ensures { λ r. ⌜ r ≡ indexBufferUse (now (command .entry)) k j ⌝ }
+    ensures { λ r. ⌜ r ≡ indexBufferUse (now (command .entry)) k j 0 ⌝ }
 {
     if j != 2 {
         return Access::Unused;
@@ -117,26 +134,26 @@ pub fn index_buffer_use(command: &[u32], k: usize, j: usize) -> Access
 // The address that the command uses with its low dword at k, if it does.
 pub fn access_of(row: usize, command: &[u32], k: usize, j: usize) -> Access
     requires { ⌜ k < length (now command) ⌝ }
-    ensures { λ r. ⌜ r ≡ accessOf row (now (command .entry)) k j ⌝ }
+    ensures { λ r. ⌜ r ≡ accessOf row (now (command .entry)) k j (getD (now (command .entry)) k 0) ⌝ }
 {
     match row {
-        0 => Access::Unused,
-        1 => Access::Unused,
-        2 => start_use(j),
-        3 => Access::Unused,
-        4 => store_use(command, j),
-        5 => store_register_use(j),
-        6 => load_register_use(j),
-        7 => pipe_use(command, j),
-        8 => Access::Unused,
-        9 => Access::Unused,
-        10 => vertex_buffer_use(command, k, j),
-        11 => Access::Unused,
-        12 => index_buffer_use(command, k, j),
-        13 => Access::Unused,
-        14 => Access::Unused,
-        15 => Access::Unused,
-        16 => Access::Unused,
+        NOOP_ROW => Access::Unused,
+        END_ROW => Access::Unused,
+        START_ROW => start_use(j),
+        SET_REGISTERS_ROW => Access::Unused,
+        STORE_ROW => store_use(command, j),
+        STORE_REGISTER_ROW => store_register_use(j),
+        LOAD_REGISTER_ROW => load_register_use(j),
+        PIPE_ROW => pipe_use(command, j),
+        SELECT_ROW => Access::Unused,
+        BASE_ROW => Access::Unused,
+        VERTEX_BUFFERS_ROW => vertex_buffer_use(command, k, j),
+        VERTEX_ELEMENTS_ROW => Access::Unused,
+        INDEX_BUFFER_ROW => index_buffer_use(command, k, j),
+        TOPOLOGY_ROW => Access::Unused,
+        VIEWPORT_ROW => Access::Unused,
+        COLOUR_ROW => Access::Unused,
+        PRIMITIVE_ROW => Access::Unused,
         _ => Access::Unused,
     }
 }

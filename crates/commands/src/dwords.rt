@@ -2,7 +2,7 @@
 ghost use mathlib.Core.Path.{_≡_};
 ghost use Prim.Native.Nat.{_+_, _*_, _^_, _<_};
 ghost use lib.ListN.{length, getD};
-ghost use Rattle.rules.specs.Addresses.{addressAt};
+ghost use Rattle.rules.specs.Uses.{addressAt};
 
 pub fn dword(command: &[u32], k: usize) -> u32
     ensures { λ r. ⌜ r ≡ getD (now (command .entry)) k 0 ⌝ }

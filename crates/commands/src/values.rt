@@ -1,12 +1,31 @@
-// The value rules (12): whether the dword j of its group breaks the rule of its row.
+// The value rules (12): whether a dword, the dword j of its group, breaks the rule of its row.
 ghost use mathlib.Core.Path.{_≡_};
 ghost use mathlib.Core.List.{[], _∷_};
+ghost use Prim.Native.Nat.{_<_};
+ghost use lib.ListN.{length, getD};
 ghost use Rattle.rules.specs.Formats.{surfaceFormats};
 ghost use Rattle.rules.specs.Values.{startRule, registerRule, storeRule, pipeRule, vertexBufferRule, afterZero, componentsWrong, vertexElementRule, indexBufferRule, topologyRule, primitiveRule, ruleOf};
 use crate::dwords::dword;
+use rules::names::BASE_ROW;
+use rules::names::COLOUR_ROW;
+use rules::names::END_ROW;
+use rules::names::INDEX_BUFFER_ROW;
+use rules::names::LOAD_REGISTER_ROW;
+use rules::names::NOOP_ROW;
+use rules::names::PIPE_ROW;
+use rules::names::PRIMITIVE_ROW;
+use rules::names::SELECT_ROW;
+use rules::names::SET_REGISTERS_ROW;
+use rules::names::START_ROW;
+use rules::names::STORE_REGISTER_ROW;
+use rules::names::STORE_ROW;
+use rules::names::TOPOLOGY_ROW;
+use rules::names::VERTEX_BUFFERS_ROW;
+use rules::names::VERTEX_ELEMENTS_ROW;
+use rules::names::VIEWPORT_ROW;
 
 fn start_wrong(j: usize, word: u32) -> bool
-    ensures { λ r. ⌜ r ≡ startRule [] j word ⌝ }
+    ensures { λ r. ⌜ r ≡ startRule [] 0 j word ⌝ }
 {
     if j != 0 {
         return false;
@@ -15,7 +34,7 @@ fn start_wrong(j: usize, word: u32) -> bool
 }
 
 fn register_wrong(j: usize, word: u32) -> bool
-    ensures { λ r. ⌜ r ≡ registerRule [] j word ⌝ }
+    ensures { λ r. ⌜ r ≡ registerRule [] 0 j word ⌝ }
 {
     if j != 1 {
         return false;
@@ -24,7 +43,7 @@ fn register_wrong(j: usize, word: u32) -> bool
 }
 
 fn store_wrong(command: &[u32], j: usize, word: u32) -> bool
-    ensures { λ r. ⌜ r ≡ storeRule (now (command .entry)) j word ⌝ }
+    ensures { λ r. ⌜ r ≡ storeRule (now (command .entry)) 0 j word ⌝ }
 {
     if j != 1 {
         return false;
@@ -36,7 +55,7 @@ fn store_wrong(command: &[u32], j: usize, word: u32) -> bool
 }
 
 fn pipe_wrong(command: &[u32], j: usize, word: u32) -> bool
-    ensures { λ r. ⌜ r ≡ pipeRule (now (command .entry)) j word ⌝ }
+    ensures { λ r. ⌜ r ≡ pipeRule (now (command .entry)) 0 j word ⌝ }
 {
     if dword(command, 1) / 0x4000 % 4 == 0 {
         if j < 2 {
@@ -51,7 +70,7 @@ fn pipe_wrong(command: &[u32], j: usize, word: u32) -> bool
 }
 
 fn vertex_buffer_wrong(j: usize, word: u32) -> bool
-    ensures { λ r. ⌜ r ≡ vertexBufferRule [] j word ⌝ }
+    ensures { λ r. ⌜ r ≡ vertexBufferRule [] 0 j word ⌝ }
 {
     if j != 1 {
         return false;
@@ -106,7 +125,7 @@ fn components_wrong(word: u32) -> bool
 
 fn vertex_element_wrong(j: usize, word: u32, formats: &[u16; 512]) -> bool
     requires { ⌜ now formats ≡ surfaceFormats ⌝ }
-    ensures { λ r. ⌜ r ≡ vertexElementRule [] j word ⌝ }
+    ensures { λ r. ⌜ r ≡ vertexElementRule [] 0 j word ⌝ }
 {
     if j == 1 {
         if 32 < word / 0x400_0000 % 64 {
@@ -121,7 +140,7 @@ fn vertex_element_wrong(j: usize, word: u32, formats: &[u16; 512]) -> bool
 }
 
 fn index_buffer_wrong(j: usize, word: u32) -> bool
-    ensures { λ r. ⌜ r ≡ indexBufferRule [] j word ⌝ }
+    ensures { λ r. ⌜ r ≡ indexBufferRule [] 0 j word ⌝ }
 {
     if j != 1 {
         return false;
@@ -130,7 +149,7 @@ fn index_buffer_wrong(j: usize, word: u32) -> bool
 }
 
 fn topology_wrong(j: usize, word: u32) -> bool
-    ensures { λ r. ⌜ r ≡ topologyRule [] j word ⌝ }
+    ensures { λ r. ⌜ r ≡ topologyRule [] 0 j word ⌝ }
 {
     if j != 1 {
         return false;
@@ -139,7 +158,7 @@ fn topology_wrong(j: usize, word: u32) -> bool
 }
 
 fn primitive_wrong(command: &[u32], j: usize, word: u32) -> bool
-    ensures { λ r. ⌜ r ≡ primitiveRule (now (command .entry)) j word ⌝ }
+    ensures { λ r. ⌜ r ≡ primitiveRule (now (command .entry)) 0 j word ⌝ }
 {
     if dword(command, 1) / 0x200 % 2 != 1 {
         return false;
@@ -162,29 +181,30 @@ fn primitive_wrong(command: &[u32], j: usize, word: u32) -> bool
     j == 6
 }
 
-// Whether the word, the dword j of its group, breaks the value rule of its row.
-pub fn value_wrong(row: usize, command: &[u32], j: usize, word: u32, formats: &[u16; 512]) -> bool
-    requires { ⌜ now formats ≡ surfaceFormats ⌝ }
-    ensures { λ r. ⌜ r ≡ ruleOf row (now (command .entry)) j word ⌝ }
+// Whether the dword k, the dword j of its group, breaks the value rule of its row.
+pub fn value_wrong(row: usize, command: &[u32], k: usize, j: usize, formats: &[u16; 512]) -> bool
+    requires { ⌜ (k < length (now command)) × (now formats ≡ surfaceFormats) ⌝ }
+    ensures { λ r. ⌜ r ≡ ruleOf row (now (command .entry)) k j (getD (now (command .entry)) k 0) ⌝ }
 {
+    let word = command[k];
     match row {
-        0 => false,
-        1 => false,
-        2 => start_wrong(j, word),
-        3 => register_wrong(j, word),
-        4 => store_wrong(command, j, word),
-        5 => register_wrong(j, word),
-        6 => register_wrong(j, word),
-        7 => pipe_wrong(command, j, word),
-        8 => false,
-        9 => false,
-        10 => vertex_buffer_wrong(j, word),
-        11 => vertex_element_wrong(j, word, formats),
-        12 => index_buffer_wrong(j, word),
-        13 => topology_wrong(j, word),
-        14 => false,
-        15 => false,
-        16 => primitive_wrong(command, j, word),
+        NOOP_ROW => false,
+        END_ROW => false,
+        START_ROW => start_wrong(j, word),
+        SET_REGISTERS_ROW => register_wrong(j, word),
+        STORE_ROW => store_wrong(command, j, word),
+        STORE_REGISTER_ROW => register_wrong(j, word),
+        LOAD_REGISTER_ROW => register_wrong(j, word),
+        PIPE_ROW => pipe_wrong(command, j, word),
+        SELECT_ROW => false,
+        BASE_ROW => false,
+        VERTEX_BUFFERS_ROW => vertex_buffer_wrong(j, word),
+        VERTEX_ELEMENTS_ROW => vertex_element_wrong(j, word, formats),
+        INDEX_BUFFER_ROW => index_buffer_wrong(j, word),
+        TOPOLOGY_ROW => topology_wrong(j, word),
+        VIEWPORT_ROW => false,
+        COLOUR_ROW => false,
+        PRIMITIVE_ROW => primitive_wrong(command, j, word),
         _ => false,
     }
 }

@@ -7,8 +7,9 @@ use lib.Dec.{eqb}
 use Rattle.rules.specs.declared.Cursor.{Cursor}
 use Rattle.rules.specs.declared.After.{After}
 use Rattle.rules.specs.declared.After.the-variants.{To}
-use Rattle.rules.specs.Addresses.{addressAt}
-use Rattle.rules.specs.Step.{endRow, startRow, cursor, afterEnd, levelAfterStart, baseAfter}
+use Rattle.rules.specs.Commands.{endRow, startRow}
+use Rattle.rules.specs.Uses.{addressAt}
+use Rattle.rules.specs.Step.{cursor, afterEnd, levelAfterStart, baseAfter}
 
 -- the move, of the batch window's address alone
 unfoldable pub moveFrom : ℕ → Cursor → ℕ → List ℕ → ℕ → After

@@ -1,7 +1,7 @@
 // Where an accepted command leads.
 ghost use mathlib.Core.Path.{_≡_};
 ghost use Prim.Native.Nat.{_-_, _/_};
-ghost use Rattle.rules.specs.Addresses.{addressAt};
+ghost use Rattle.rules.specs.Uses.{addressAt};
 ghost use Rattle.rules.specs.Step.{afterEnd, levelAfterStart, baseAfter, levelNumber};
 ghost use Rattle.onward.specs.Onward.{moveFrom};
 use commands::dwords::dword;
@@ -9,6 +9,9 @@ use rules::After;
 use rules::Base;
 use rules::Cursor;
 use rules::Level;
+use rules::names::BASE_ROW;
+use rules::names::END_ROW;
+use rules::names::START_ROW;
 
 pub fn level_number(level: Level) -> usize
     ensures { λ r. ⌜ r ≡ levelNumber level ⌝ }
@@ -66,7 +69,7 @@ fn level_after_start(header: u32, next: usize, level: Level) -> Level
 fn base_after(row: usize, command: &[u32], base: Base) -> Base
     ensures { λ r. ⌜ r ≡ baseAfter row (now (command .entry)) base ⌝ }
 {
-    if row != 9 {
+    if row != BASE_ROW {
         return base;
     }
     let low = dword(command, 6);
@@ -84,10 +87,10 @@ pub fn move_of(batch_at: u64, s: Cursor, row: usize, command: &[u32], next: usiz
 {
     let level = s.level;
     let base = s.base;
-    if row == 1 {
+    if row == END_ROW {
         return after_end(level, base);
     }
-    if row == 2 {
+    if row == START_ROW {
         return After::To(Cursor {
             at: target(batch_at, command),
             level: level_after_start(dword(command, 0), next, level),

@@ -11,7 +11,7 @@ use lib.Dec.{eqb, leb, ltb}
 use borrow.Author.Tests.{eqb-true, ltb-true, leb-true, lt-ltb, le-ltb, le-leb, lt-leb}
 use Rattle.rules.specs.declared.Windows.{Windows}
 use Rattle.rules.specs.Words.{bit, field}
-use Rattle.rules.specs.Commands.{Length, dwordCount, one, exactly, byBit, groups, theRow, groupSize, lengthOf, lengthRight}
+use Rattle.rules.specs.Commands.{Length, dwordCount, one, exactly, byBit, groups, theRow, groupSize, lengthOf, lengthRight, rowCount}
 use Rattle.rules.proofs.Searching.{and-left, and-right}
 use Rattle.sift.specs.Clean.{cleanOf}
 use Rattle.quick.specs.Quick.{quickOf}
@@ -58,11 +58,11 @@ module _ (r : ℕ) {row : ℕ} (d : List ℕ) (q : row ≡ r) (right : lengthRig
 
 -- the ways out of the quick look
 module _ (w : Windows) (r : ℕ) (rest : List ℕ) where
-  pub no-row : 17 ≤ r → 0 ≡ quickOf w r rest
+  pub no-row : rowCount ≤ r → 0 ≡ quickOf w r rest
   unfolding quickOf
   no-row h = rw (le-ltb _ _ h)
 
-  module _ (k : r < 17) where
+  module _ (k : r < rowCount) where
     pub wrong-length : lengthRight r (getD rest 0 0) ≡ false → 0 ≡ quickOf w r rest
     unfolding quickOf
     wrong-length e = rw (lt-ltb _ _ k, e)
@@ -104,7 +104,7 @@ module _ (r n : ℕ) (rest : List ℕ) (e : n ≡ lengthOf r (getD rest 0 0)) (l
 
 -- what a command has passed that the quick look gives the length of
 pub record Passed (w : Windows) (r : ℕ) (rest : List ℕ) (n : ℕ) : Type 0 where
-  pub known : r < 17
+  pub known : r < rowCount
   pub right : lengthRight r (getD rest 0 0) ≡ true
   pub within : lengthOf r (getD rest 0 0) ≤ length rest
   pub clean : cleanOf w r (take (lengthOf r (getD rest 0 0)) rest) ≡ true
@@ -113,11 +113,11 @@ pub record Passed (w : Windows) (r : ℕ) (rest : List ℕ) (n : ℕ) : Type 0 w
 pub passed : (w : Windows) (r : ℕ) (rest : List ℕ) {n : ℕ} → n ≡ quickOf w r rest → (n ≡ 0 → ⊥) → Passed w r rest n
 unfolding quickOf
 passed w r rest {n} e z =
-    let t = some-number (ltb r 17 && (lengthRight r (getD rest 0 0) && (leb (lengthOf r (getD rest 0 0)) (length rest) && cleanOf w r (take (lengthOf r (getD rest 0 0)) rest)))) e z in
-    let a = and-right (ltb r 17) _ (t .0) in
+    let t = some-number (ltb r rowCount && (lengthRight r (getD rest 0 0) && (leb (lengthOf r (getD rest 0 0)) (length rest) && cleanOf w r (take (lengthOf r (getD rest 0 0)) rest)))) e z in
+    let a = and-right (ltb r rowCount) _ (t .0) in
     let b = and-right (lengthRight r (getD rest 0 0)) _ a in
     record {
-      known = ltb-true _ _ (and-left (ltb r 17) _ (t .0));
+      known = ltb-true _ _ (and-left (ltb r rowCount) _ (t .0));
       right = and-left (lengthRight r (getD rest 0 0)) _ a;
       within = leb-true _ _ (and-left (leb (lengthOf r (getD rest 0 0)) (length rest)) _ b);
       clean = and-right (leb (lengthOf r (getD rest 0 0)) (length rest)) _ b;

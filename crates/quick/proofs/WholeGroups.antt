@@ -14,9 +14,11 @@ use Rattle.rules.specs.declared.Access.{Access}
 use Rattle.rules.specs.declared.Access.the-variants.{Unused}
 use Rattle.rules.specs.declared.Windows.{Windows}
 use Rattle.rules.specs.Words.{allowed, inGroup, some}
-use Rattle.rules.specs.Commands.{rows, theRow, groupSize, spot, masksOf, lengthOf, lengthRight}
+use Rattle.rules.specs.Commands.{rows, theRow, groupSize, spot, lengthOf, lengthRight, rowCount}
+use Rattle.rules.specs.Uses.{vertexBufferUse, usesByRow, accessOf, addressAt}
+use Rattle.rules.specs.Masks.{masksOf}
 use Rattle.rules.specs.Values.{componentsWrong, valueRules, ruleOf, valueWrong}
-use Rattle.rules.specs.Addresses.{vertexBufferUse, usesByRow, accessOf, addressAt, accessWrong, rangeWrong}
+use Rattle.rules.specs.Addresses.{accessWrong, rangeWrong}
 use Rattle.rules.proofs.Searching.{never-both, or-cases, and-left, and-right}
 use Rattle.rules.proofs.Tables.{each, at-each}
 use Rattle.sift.specs.Clean.{freeFrom, cleanFrom, cleanOf, maskedFrom}
@@ -60,18 +62,18 @@ none-alike r (k ∷ ks) u = rw (ne-eqb r k (u .1)) (none-alike r ks (u .0))
 grouped-or-fixed : ℕ → Bool
 grouped-or-fixed r = some (eqb r) fixedRows || (eqb r 3 || (eqb r 10 || eqb r 11))
 
-all-told : each grouped-or-fixed 17 ≡ true
+all-told : each grouped-or-fixed rowCount ≡ true
 unfolding each some grouped-or-fixed
 all-told = refl
 
-pub of-groups : (r : ℕ) → r < 17 → Unlike fixedRows r → OfGroups r
+pub of-groups : (r : ℕ) → r < rowCount → Unlike fixedRows r → OfGroups r
 unfolding grouped-or-fixed
 of-groups r h u =
     ⊎-elim (λ p. absurd (never-both p (none-alike r fixedRows u)))
     (λ p.
     ⊎-elim (λ q. inl (eqb-true r 3 q))
     (λ q. inr (⊎-elim (λ t. inl (eqb-true r 10 t)) (λ t. inr (eqb-true r 11 t)) (or-cases (eqb r 10) _ q))) (or-cases (eqb r 3) _ p))
-    (or-cases (some (eqb r) fixedRows) _ (at-each grouped-or-fixed 17 all-told r h))
+    (or-cases (some (eqb r) fixedRows) _ (at-each grouped-or-fixed rowCount all-told r h))
 
 -- a group has dwords
 pub some-dwords : {r : ℕ} → OfGroups r → 0 < groupSize r
@@ -90,7 +92,7 @@ counted r d (inr (inr e)) f g = length-groups 11 d e f g 34 (groupSize r) refl (
 
 -- no row of groups has a rule or an address at its header
 header-quiet : (w : Windows) (d : List ℕ) {r : ℕ} → OfGroups r
-    → (ruleOf r d 0 (getD d 0 0) ≡ false) × (accessOf r d 0 0 ≡ Unused)
+    → (ruleOf r d 0 0 (getD d 0 0) ≡ false) × (accessOf r d 0 0 (getD d 0 0) ≡ Unused)
 unfolding valueRules ruleOf usesByRow accessOf
 header-quiet w d (inl e) = rw e (refl, refl)
 header-quiet w d (inr (inl e)) = rw e (refl, refl)
@@ -121,11 +123,11 @@ module _ (r : ℕ) (d : List ℕ) (k : ℕ) (g : GroupAt r d k) where
 
 -- a vertex buffer has one address, with its low dword behind its first
 module _ (w : Windows) (d : List ℕ) (k : ℕ) (g : GroupAt 10 d k) where
-  unused : (i k' : ℕ) → i < groupSize 10 → k' ≡ k + i → accessOf 10 d k' (i + 1) ≡ Unused → true ≡ freeFrom (rangeWrong w 10 d) k' 1
+  unused : (i k' : ℕ) → i < groupSize 10 → k' ≡ k + i → accessOf 10 d k' (i + 1) (getD d k' 0) ≡ Unused → true ≡ freeFrom (rangeWrong w 10 d) k' 1
   unused i k' h e q = range-at 10 d w k' (i + 1) Unused (spot-at 10 d k g i h e) q refl
 
   -- by its flags, its size and its two dwords
-  its-range : {a : Access} → a ≡ vertexBufferUse (getD d k 0 ∷ 0 ∷ 0 ∷ getD d (k + 3) 0 ∷ []) 1 2 → accessOf 10 d (k + 1) 2 ≡ a
+  its-range : {a : Access} → a ≡ vertexBufferUse (getD d k 0 ∷ 0 ∷ 0 ∷ getD d (k + 3) 0 ∷ []) 1 2 0 → accessOf 10 d (k + 1) 2 (getD d (k + 1) 0) ≡ a
   unfolding usesByRow accessOf
   its-range e =
       let p : k + 1 - 1 ≡ k = omega arith in
@@ -136,7 +138,7 @@ module _ (w : Windows) (d : List ℕ) (k : ℕ) (g : GroupAt 10 d k) where
   unfolding addressAt
   its-address e = let q : k + 1 + 1 ≡ k + 2 = omega arith in rw q e
 
-  pub buffer-range : {x : Bool} {a : Access} {p : ℕ} → a ≡ vertexBufferUse (getD d k 0 ∷ 0 ∷ 0 ∷ getD d (k + 3) 0 ∷ []) 1 2
+  pub buffer-range : {x : Bool} {a : Access} {p : ℕ} → a ≡ vertexBufferUse (getD d k 0 ∷ 0 ∷ 0 ∷ getD d (k + 3) 0 ∷ []) 1 2 0
       → p ≡ getD d (k + 1) 0 + 2 ^ 32 * getD d (k + 2) 0 → x ≡ accessWrong w p a → not x ≡ freeFrom (rangeWrong w 10 d) k 4
   unfolding rows theRow groupSize usesByRow accessOf
   buffer-range {x} {a} {p} e f h =

@@ -7,13 +7,13 @@ use mathlib.Core.Logic.{_⊎_}
 use lib.ListN.{length, getD, take}
 use lib.Dec.{leb, ltb}
 use Rattle.rules.specs.declared.Windows.{Windows}
-use Rattle.rules.specs.Commands.{groupSize, lengthOf, lengthRight}
+use Rattle.rules.specs.Commands.{groupSize, lengthOf, lengthRight, rowCount}
 use Rattle.sift.specs.Clean.{cleanOf}
 
 -- the length of the command that comes first, where 7 to 10, 12 and 13 find nothing wrong with it; else 0, which no command is long
 unfoldable pub quickOf : Windows → ℕ → List ℕ → ℕ
 quickOf w r rest =
-    cond (ltb r 17
+    cond (ltb r rowCount
     && (lengthRight r (getD rest 0 0)
     && (leb (lengthOf r (getD rest 0 0)) (length rest) && cleanOf w r (take (lengthOf r (getD rest 0 0)) rest))))
     (lengthOf r (getD rest 0 0)) 0

@@ -6,8 +6,9 @@ ghost use Prim.Native.Nat.{_+_, _-_, _%_, _≤_, _<_};
 ghost use lib.ListN.{length, getD};
 ghost use lib.Dec.{ltb};
 ghost use Rattle.rules.specs.Words.{allowed, some};
+ghost use Rattle.rules.specs.Commands.{groupSize};
+ghost use Rattle.rules.specs.Masks.{masksOf};
 ghost use Rattle.rules.specs.Formats.{surfaceFormats};
-ghost use Rattle.rules.specs.Commands.{groupSize, masksOf};
 ghost use Rattle.rules.specs.Values.{components, componentsWrong};
 ghost use Rattle.sift.specs.Clean.{cleanFrom, cleanOf};
 ghost use Rattle.quick.specs.Quick.{OfGroups, GroupAt};
@@ -15,11 +16,11 @@ use commands::addresses::vertex_buffer_range;
 use commands::dwords::address_of;
 use rows::group_size;
 use rules::Windows;
-use search::access_wrong;
 use sift::masks::four;
 use sift::masks::one;
 use sift::masks::two;
 use sift::values;
+use windows::access_wrong;
 
 // Whether some control is above 4. With 3 added to all four at once, each that is has the clear bit above it set.
 fn some_over(word: u32) -> bool

@@ -5,7 +5,7 @@ ghost use mathlib.Core.Bool.{true};
 ghost use Prim.Native.Nat.{_<_};
 ghost use lib.ListN.{length, getD};
 ghost use Rattle.rules.specs.Formats.{surfaceFormats};
-ghost use Rattle.rules.specs.Commands.{lengthOf, lengthRight};
+ghost use Rattle.rules.specs.Commands.{rowCount, lengthOf, lengthRight};
 ghost use Rattle.sift.specs.Clean.{cleanOf};
 ghost use Rattle.quick.specs.Quick.{quickOf};
 use groups::grouped;
@@ -20,7 +20,7 @@ mod groups;
 
 // Whether nothing is wrong with the dwords of a command that has the right length.
 fn clean(w: Windows, row: usize, d: &[u32], formats: &[u16; 512]) -> bool
-    requires { ⌜ (row < 17) × (lengthRight row (getD (now d) 0 0) ≡ true) × (length (now d) ≡ lengthOf row (getD (now d) 0 0)) × (now formats ≡ surfaceFormats) ⌝ }
+    requires { ⌜ (row < rowCount) × (lengthRight row (getD (now d) 0 0) ≡ true) × (length (now d) ≡ lengthOf row (getD (now d) 0 0)) × (now formats ≡ surfaceFormats) ⌝ }
     ensures { λ r. ⌜ r ≡ cleanOf w row (now (d .entry)) ⌝ }
 {
     match row {
@@ -44,7 +44,7 @@ fn clean(w: Windows, row: usize, d: &[u32], formats: &[u16; 512]) -> bool
 
 // The length of the command that `rest` starts with, or 0 if anything is wrong with it.
 fn whole(w: Windows, row: usize, rest: &[u32], formats: &[u16; 512]) -> usize
-    requires { ⌜ (row < 17) × (0 < length (now rest)) × (now formats ≡ surfaceFormats) ⌝ }
+    requires { ⌜ (row < rowCount) × (0 < length (now rest)) × (now formats ≡ surfaceFormats) ⌝ }
     ensures { λ r. ⌜ r ≡ quickOf w row (now (rest .entry)) ⌝ }
 {
     let header = rest[0];

@@ -18,8 +18,9 @@ use Rattle.rules.specs.declared.Level.the-variants.{First, Second}
 use Rattle.rules.specs.declared.Cursor.{Cursor}
 use Rattle.rules.specs.Words.{allowed}
 use Rattle.rules.specs.Windows.{Capture}
-use Rattle.rules.specs.Commands.{Length, one, exactly, byBit, groups, theRow, dwordCount, lengthOf, allowedAt, bitWrong}
-use Rattle.rules.specs.Addresses.{addressAt}
+use Rattle.rules.specs.Commands.{Length, one, exactly, byBit, groups, theRow, dwordCount, lengthOf}
+use Rattle.rules.specs.Uses.{addressAt}
+use Rattle.rules.specs.Masks.{allowedAt, bitWrong}
 use Rattle.rules.specs.Step.{headerAt, rowAt, lengthAt, dwordsAt}
 use Rattle.rules.proofs.Stepping.{Passed}
 use Rattle.replay.specs.Streamer.{Machine, Step, withWord, fetched, fetchedWords, fetchedAddress}

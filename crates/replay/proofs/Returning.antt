@@ -17,7 +17,8 @@ use Rattle.rules.specs.declared.After.the-variants.{Ends, To}
 use Rattle.rules.specs.declared.Outcome.the-variants.{Taken}
 use Rattle.rules.specs.Words.{bit}
 use Rattle.rules.specs.Windows.{Capture}
-use Rattle.rules.specs.Step.{endRow, startRow, headerAt, rowAt, lengthAt, dwordsAt, commandAt as walkCommand, stepOf}
+use Rattle.rules.specs.Commands.{endRow, startRow}
+use Rattle.rules.specs.Step.{headerAt, rowAt, lengthAt, dwordsAt, commandAt as walkCommand, stepOf}
 use Rattle.rules.proofs.Stepping.{took, passed}
 use Rattle.rules.proofs.Moving.{Way, ends, returns, jumps, calls, goes-on, taken-way, nextAt, same-cursor, ends-nowhere, first-keeps-none, same-kept, return-level}
 use Rattle.replay.specs.Streamer.{Machine, Effect}

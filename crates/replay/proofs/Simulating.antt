@@ -20,9 +20,10 @@ use Rattle.rules.specs.declared.After.the-variants.{Ends, To}
 use Rattle.rules.specs.declared.Outcome.the-variants.{Taken}
 use Rattle.rules.specs.Words.{bit, field, inGroup}
 use Rattle.rules.specs.Windows.{Capture, windowsOf, Inside}
-use Rattle.rules.specs.Commands.{Length, one, exactly, byBit, groups, rows, rowCount, theRow, rowOf, lengthOf, groupSize, lengthRight, masksOf, allowedAt}
-use Rattle.rules.specs.Values.{postSync}
-use Rattle.rules.specs.Addresses.{addressAt, rangeWrong}
+use Rattle.rules.specs.Commands.{Length, one, exactly, byBit, groups, rows, rowCount, theRow, rowOf, lengthOf, groupSize, lengthRight}
+use Rattle.rules.specs.Uses.{postSync, addressAt}
+use Rattle.rules.specs.Masks.{allowedOf, masksOf, allowedAt}
+use Rattle.rules.specs.Addresses.{rangeWrong}
 use Rattle.rules.specs.Step.{headerAt, rowAt, lengthAt, dwordsAt, cursor, commandAt as walkCommand, stepOf}
 use Rattle.rules.proofs.Searching.{either}
 use Rattle.rules.proofs.Stepping.{Passed, passed, took}
@@ -167,12 +168,12 @@ module _ (c : Capture) (sound : Sound (windowsOf c)) (hardware : Hardware) (done
 
   -- the allowed bits of the low dwords of addresses leave out the lowest two
   low-1 : (r : ℕ) → (r ≡ 2) ⊎ (r ≡ 4) → allowedAt r d 1 % 4 ≡ 0
-  unfolding allowedAt masksOf rows theRow groupSize inGroup
+  unfolding allowedOf allowedAt masksOf rows theRow groupSize inGroup
   low-1 r (inl e) = rw e
   low-1 r (inr e) = rw e
 
   low-2 : (r : ℕ) → (r ≡ 5) ⊎ (r ≡ 6) ⊎ (r ≡ 7) → allowedAt r d 2 % 4 ≡ 0
-  unfolding allowedAt masksOf rows theRow groupSize inGroup
+  unfolding allowedOf allowedAt masksOf rows theRow groupSize inGroup
   low-2 r (inl e) = rw e
   low-2 r (inr (inl e)) = rw e
   low-2 r (inr (inr e)) = rw e

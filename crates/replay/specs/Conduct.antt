@@ -8,7 +8,7 @@ use mathlib.Core.Logic.{_⊎_}
 use lib.ListN.{getD}
 use Rattle.rules.specs.Words.{bit}
 use Rattle.rules.specs.Windows.{Capture, windowsOf, Inside}
-use Rattle.rules.specs.Step.{endRow, startRow}
+use Rattle.rules.specs.Commands.{endRow, startRow}
 use Rattle.replay.specs.Streamer.{Map, Machine, machine}
 use Rattle.replay.specs.Runs.{Moment}
 

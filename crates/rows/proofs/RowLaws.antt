@@ -10,7 +10,7 @@ use lib.ListN.{length, getD, drop, List·getD-eq-default}
 use lib.Dec.{eqb, leb, ltb, lit<, lit≤}
 use borrow.Author.Tests.{eq-eqb, ne-eqb, ltb-true, ltb-false, le-leb, lt-leb, le-ltb}
 use Rattle.rules.specs.Words.{bit, field, cleared, some}
-use Rattle.rules.specs.Commands.{Length, one, exactly, byBit, groups, Row, rows, theRow, keyOf, rowFrom, rowOf, dwordCount, lengthOf, groupSize, fieldRight, lengthRight}
+use Rattle.rules.specs.Commands.{Length, one, exactly, byBit, groups, Row, rows, theRow, keyOf, rowFrom, rowOf, dwordCount, lengthOf, groupSize, fieldRight, lengthRight, rowCount}
 use Rattle.rows.specs.Groups.{groupsRight}
 use Rattle.rules.proofs.Tables.{each, at-each}
 use Rattle.rules.proofs.Searching.{some-left, some-right, or-cases, never-both}
@@ -25,7 +25,7 @@ past zero r rest = omega arith
 past (suc n) r rest = let h : n ≤ r = past n r (rest .0) in let k = rest .1 in omega arith
 
 -- past the table's end
-pub no-row : (r : ℕ) → 17 ≤ r → theRow r ≡ record { key = 0; free = 0; total = one; masks = [] }
+pub no-row : (r : ℕ) → rowCount ≤ r → theRow r ≡ record { key = 0; free = 0; total = one; masks = [] }
 unfolding rows theRow
 no-row r h = List·getD-eq-default rows _ h
 
@@ -36,7 +36,7 @@ hasField (exactly f) = true
 hasField (byBit b f g) = true
 hasField (groups n) = true
 
-fields-tested : each (λ r. hasField (theRow r .total) || (ltb r 2 || eqb r 8)) 17 ≡ true
+fields-tested : each (λ r. hasField (theRow r .total) || (ltb r 2 || eqb r 8)) rowCount ≡ true
 unfolding each rows theRow hasField
 fields-tested = refl
 
@@ -47,11 +47,11 @@ counted (exactly f) header e = omega arith
 counted (byBit b f g) header e = omega arith
 counted (groups n) header e = omega arith
 
-pub length-counted : (r header : ℕ) → 2 ≤ r → (r ≡ 8 → ⊥) → r < 17 → header % 256 + 2 ≡ lengthOf r header
+pub length-counted : (r header : ℕ) → 2 ≤ r → (r ≡ 8 → ⊥) → r < rowCount → header % 256 + 2 ≡ lengthOf r header
 unfolding lengthOf
 length-counted r header l n h =
     counted (theRow r .total) header
-    (⊎-elim (λ e. e) (λ e. absurd (none r l n e)) (or-cases (hasField (theRow r .total)) _ (at-each (λ k. hasField (theRow k .total) || (ltb k 2 || eqb k 8)) 17 fields-tested r h)))
+    (⊎-elim (λ e. e) (λ e. absurd (none r l n e)) (or-cases (hasField (theRow r .total)) _ (at-each (λ k. hasField (theRow k .total) || (ltb k 2 || eqb k 8)) rowCount fields-tested r h)))
   where
     none : (r : ℕ) → 2 ≤ r → (r ≡ 8 → ⊥) → (ltb r 2 || eqb r 8) ≡ true → ⊥
     none r l n e = never-both (rw (le-ltb r 2 l, ne-eqb r 8 n) at e) refl
@@ -66,15 +66,15 @@ pub length-eighth : (r header : ℕ) → r ≡ 8 → 1 ≡ lengthOf r header
 unfolding lengthOf rows theRow
 length-eighth r header e = rw e
 
-pub length-past : (r header : ℕ) → 17 ≤ r → 1 ≡ lengthOf r header
+pub length-past : (r header : ℕ) → rowCount ≤ r → 1 ≡ lengthOf r header
 unfolding lengthOf
 length-past r header h = rw (no-row r h)
 
-pub size-past : (r : ℕ) → 17 ≤ r → 0 ≡ groupSize r
+pub size-past : (r : ℕ) → rowCount ≤ r → 0 ≡ groupSize r
 unfolding groupSize
 size-past r h = rw (no-row r h)
 
-pub right-past : (r header : ℕ) → 17 ≤ r → true ≡ lengthRight r header
+pub right-past : (r header : ℕ) → rowCount ≤ r → true ≡ lengthRight r header
 unfolding lengthRight
 right-past r header h = rw (no-row r h)
 
@@ -102,7 +102,7 @@ pub unknown-0 : (key : ℕ) → key < 64
     → (key ≡ 0x20 → ⊥)
     → (key ≡ 0x24 → ⊥)
     → (key ≡ 0x29 → ⊥)
-    → 17 ≡ rowFrom (key * 2 ^ 23) rows
+    → rowCount ≡ rowFrom (key * 2 ^ 23) rows
 unfolding some rows
 unknown-0 key h n0 n1 n2 n3 n4 n5 n6 =
     unkeyed (key * 2 ^ 23) rows
@@ -137,7 +137,7 @@ pub unknown-3 : (key : ℕ)
     → (key ≡ 0x7823 → ⊥)
     → (key ≡ 0x780E → ⊥)
     → (key ≡ 0x7B00 → ⊥)
-    → 17 ≡ 7 + rowFrom (key * 2 ^ 16) (drop 7 rows)
+    → rowCount ≡ 7 + rowFrom (key * 2 ^ 16) (drop 7 rows)
 unfolding some rows
 unknown-3 key n7 n8 n9 n10 n11 n12 n13 n14 n15 n16 =
     ap (λ (n : ℕ). 7 + n)
@@ -163,7 +163,7 @@ key-0 header k e h =
     rw (eq-eqb _ 0 t, e)
 
 -- a key below 2^29 is none of type 3, and one from there on none of type 0
-below-3 : (key : ℕ) → key < 2 ^ 29 → 17 ≡ 7 + rowFrom key (drop 7 rows)
+below-3 : (key : ℕ) → key < 2 ^ 29 → rowCount ≡ 7 + rowFrom key (drop 7 rows)
 unfolding some rows
 below-3 key h =
     ap (λ (n : ℕ). 7 + n)

@@ -2,7 +2,8 @@
 use Prim.Native.Nat.{ℕ, zero, suc, _+_, _-_}
 use mathlib.Core.List.{List, [], _∷_, _++_}
 use lib.ListN.{length, replicate}
-use Rattle.rules.specs.Commands.{masksOf}
+use Rattle.rules.specs.Commands.{rowCount}
+use Rattle.rules.specs.Masks.{masksOf}
 
 -- the masks of n rows from a row on, each row filled up to sixteen with what allows nothing
 unfoldable pub maskRows : ℕ → ℕ → List (List ℕ)
@@ -11,4 +12,4 @@ maskRows r (suc n) = (masksOf r ++ replicate (16 - length (masksOf r)) 0) ∷ ma
 
 -- the table that the code lends: a row's number by a dword's number
 unfoldable pub maskTable : List (List ℕ)
-maskTable = maskRows 0 17
+maskTable = maskRows 0 rowCount

@@ -11,10 +11,27 @@ ghost use Rattle.rows.specs.Masks.{maskTable};
 mod masks;
 
 use masks::MASKS;
-pub use masks::ROWS;
+use rules::names::BASE_ROW;
+use rules::names::COLOUR_ROW;
+use rules::names::END_ROW;
+use rules::names::INDEX_BUFFER_ROW;
+use rules::names::LOAD_REGISTER_ROW;
+use rules::names::NOOP_ROW;
+use rules::names::PIPE_ROW;
+use rules::names::PRIMITIVE_ROW;
+use rules::names::ROWS;
+use rules::names::SELECT_ROW;
+use rules::names::SET_REGISTERS_ROW;
+use rules::names::START_ROW;
+use rules::names::STORE_REGISTER_ROW;
+use rules::names::STORE_ROW;
+use rules::names::TOPOLOGY_ROW;
+use rules::names::VERTEX_BUFFERS_ROW;
+use rules::names::VERTEX_ELEMENTS_ROW;
+use rules::names::VIEWPORT_ROW;
 
 // The table of allowed bits. It is written out wherever it is asked for, so a caller asks once and lends it on.
-pub fn mask_table() -> [[u32; 16]; 17]
+pub fn mask_table() -> [[u32; 16]; ROWS]
     ensures { λ r. ⌜ r ≡ maskTable ⌝ }
 {
     MASKS
@@ -25,16 +42,16 @@ fn row_of_type_3(key: u32) -> usize
     ensures { λ r. ⌜ r ≡ 7 + rowFrom (key * 2 ^ 16) (drop 7 rows) ⌝ }
 {
     match key {
-        0x7A00 => 7,
-        0x6904 => 8,
-        0x6101 => 9,
-        0x7808 => 10,
-        0x7809 => 11,
-        0x780A => 12,
-        0x784B => 13,
-        0x7823 => 14,
-        0x780E => 15,
-        0x7B00 => 16,
+        0x7A00 => PIPE_ROW,
+        0x6904 => SELECT_ROW,
+        0x6101 => BASE_ROW,
+        0x7808 => VERTEX_BUFFERS_ROW,
+        0x7809 => VERTEX_ELEMENTS_ROW,
+        0x780A => INDEX_BUFFER_ROW,
+        0x784B => TOPOLOGY_ROW,
+        0x7823 => VIEWPORT_ROW,
+        0x780E => COLOUR_ROW,
+        0x7B00 => PRIMITIVE_ROW,
         _ => ROWS,
     }
 }
@@ -44,13 +61,13 @@ pub fn row_of(header: u32) -> usize
     ensures { λ r. ⌜ r ≡ rowOf header ⌝ }
 {
     match header / 0x80_0000 {
-        0x00 => 0,
-        0x0A => 1,
-        0x31 => 2,
-        0x22 => 3,
-        0x20 => 4,
-        0x24 => 5,
-        0x29 => 6,
+        0x00 => NOOP_ROW,
+        0x0A => END_ROW,
+        0x31 => START_ROW,
+        0x22 => SET_REGISTERS_ROW,
+        0x20 => STORE_ROW,
+        0x24 => STORE_REGISTER_ROW,
+        0x29 => LOAD_REGISTER_ROW,
         _ => row_of_type_3(header / 0x1_0000),
     }
 }
@@ -59,10 +76,10 @@ pub fn row_of(header: u32) -> usize
 pub fn length_of(row: usize, header: u32) -> usize
     ensures { λ r. ⌜ r ≡ lengthOf row header ⌝ }
 {
-    if row < 2 {
+    if row <= END_ROW {
         return 1;
     }
-    if row == 8 {
+    if row == SELECT_ROW {
         return 1;
     }
     if ROWS <= row {
@@ -76,23 +93,23 @@ pub fn group_size(row: usize) -> usize
     ensures { λ r. ⌜ r ≡ groupSize row ⌝ }
 {
     match row {
-        0 => 0,
-        1 => 0,
-        2 => 2,
-        3 => 2,
-        4 => 4,
-        5 => 3,
-        6 => 3,
-        7 => 5,
-        8 => 0,
-        9 => 15,
-        10 => 4,
-        11 => 2,
-        12 => 4,
-        13 => 1,
-        14 => 1,
-        15 => 1,
-        16 => 6,
+        NOOP_ROW => 0,
+        END_ROW => 0,
+        START_ROW => 2,
+        SET_REGISTERS_ROW => 2,
+        STORE_ROW => 4,
+        STORE_REGISTER_ROW => 3,
+        LOAD_REGISTER_ROW => 3,
+        PIPE_ROW => 5,
+        SELECT_ROW => 0,
+        BASE_ROW => 15,
+        VERTEX_BUFFERS_ROW => 4,
+        VERTEX_ELEMENTS_ROW => 2,
+        INDEX_BUFFER_ROW => 4,
+        TOPOLOGY_ROW => 1,
+        VIEWPORT_ROW => 1,
+        COLOUR_ROW => 1,
+        PRIMITIVE_ROW => 6,
         _ => 0,
     }
 }
@@ -123,23 +140,23 @@ pub fn length_right(row: usize, header: u32) -> bool
 {
     let field = header % 256;
     match row {
-        0 => true,
-        1 => true,
-        2 => field == 1,
-        3 => groups_right(field, 2, 64),
-        4 => field == store_field(header),
-        5 => field == 2,
-        6 => field == 2,
-        7 => field == 4,
-        8 => true,
-        9 => field == 14,
-        10 => groups_right(field, 4, 33),
-        11 => groups_right(field, 2, 34),
-        12 => field == 3,
-        13 => field == 0,
-        14 => field == 0,
-        15 => field == 0,
-        16 => field == 5,
+        NOOP_ROW => true,
+        END_ROW => true,
+        START_ROW => field == 1,
+        SET_REGISTERS_ROW => groups_right(field, 2, 64),
+        STORE_ROW => field == store_field(header),
+        STORE_REGISTER_ROW => field == 2,
+        LOAD_REGISTER_ROW => field == 2,
+        PIPE_ROW => field == 4,
+        SELECT_ROW => true,
+        BASE_ROW => field == 14,
+        VERTEX_BUFFERS_ROW => groups_right(field, 4, 33),
+        VERTEX_ELEMENTS_ROW => groups_right(field, 2, 34),
+        INDEX_BUFFER_ROW => field == 3,
+        TOPOLOGY_ROW => field == 0,
+        VIEWPORT_ROW => field == 0,
+        COLOUR_ROW => field == 0,
+        PRIMITIVE_ROW => field == 5,
         _ => true,
     }
 }

@@ -1,8 +1,9 @@
 // The table of allowed bits: a row's number by a dword's number in its command, or in its group where groups repeat. The header is
 // dword 0; past a row's last dword nothing is allowed.
-pub const ROWS: usize = 17;
+use rules::names::ROWS;
 
-pub const MASKS: [[u32; 16]; 17] = [
+pub const MASKS: [[u32; 16]; ROWS] = [
+    // MI_NOOP
     [
         0x003F_FFFF,
         0x0000_0000,
@@ -21,6 +22,7 @@ pub const MASKS: [[u32; 16]; 17] = [
         0x0000_0000,
         0x0000_0000,
     ],
+    // MI_BATCH_BUFFER_END
     [
         0x0500_0000,
         0x0000_0000,
@@ -39,6 +41,7 @@ pub const MASKS: [[u32; 16]; 17] = [
         0x0000_0000,
         0x0000_0000,
     ],
+    // MI_BATCH_BUFFER_START
     [
         0x18C0_01FF,
         0xFFFF_FFFC,
@@ -57,6 +60,7 @@ pub const MASKS: [[u32; 16]; 17] = [
         0x0000_0000,
         0x0000_0000,
     ],
+    // MI_LOAD_REGISTER_IMM
     [
         0x1100_00FF,
         0x007F_FFFC,
@@ -75,6 +79,7 @@ pub const MASKS: [[u32; 16]; 17] = [
         0x0000_0000,
         0x0000_0000,
     ],
+    // MI_STORE_DATA_IMM
     [
         0x1020_00FF,
         0xFFFF_FFFC,
@@ -93,6 +98,7 @@ pub const MASKS: [[u32; 16]; 17] = [
         0x0000_0000,
         0x0000_0000,
     ],
+    // MI_STORE_REGISTER_MEM
     [
         0x1200_00FF,
         0x007F_FFFC,
@@ -111,6 +117,7 @@ pub const MASKS: [[u32; 16]; 17] = [
         0x0000_0000,
         0x0000_0000,
     ],
+    // MI_LOAD_REGISTER_MEM
     [
         0x1480_00FF,
         0x007F_FFFC,
@@ -129,6 +136,7 @@ pub const MASKS: [[u32; 16]; 17] = [
         0x0000_0000,
         0x0000_0000,
     ],
+    // PIPE_CONTROL
     [
         0x7A00_00FF,
         0x0010_FCBF,
@@ -147,6 +155,7 @@ pub const MASKS: [[u32; 16]; 17] = [
         0x0000_0000,
         0x0000_0000,
     ],
+    // PIPELINE_SELECT
     [
         0x6904_0000,
         0x0000_0000,
@@ -165,6 +174,7 @@ pub const MASKS: [[u32; 16]; 17] = [
         0x0000_0000,
         0x0000_0000,
     ],
+    // STATE_BASE_ADDRESS
     [
         0x6101_00FF,
         0xFFFF_F7F1,
@@ -183,6 +193,7 @@ pub const MASKS: [[u32; 16]; 17] = [
         0xFFFF_F001,
         0xFFFF_F001,
     ],
+    // 3DSTATE_VERTEX_BUFFERS
     [
         0x7808_00FF,
         0xFC7F_6FFF,
@@ -201,6 +212,7 @@ pub const MASKS: [[u32; 16]; 17] = [
         0x0000_0000,
         0x0000_0000,
     ],
+    // 3DSTATE_VERTEX_ELEMENTS
     [
         0x7809_00FF,
         0xFFFF_8FFF,
@@ -219,6 +231,7 @@ pub const MASKS: [[u32; 16]; 17] = [
         0x0000_0000,
         0x0000_0000,
     ],
+    // 3DSTATE_INDEX_BUFFER
     [
         0x780A_00FF,
         0x0000_037F,
@@ -237,6 +250,7 @@ pub const MASKS: [[u32; 16]; 17] = [
         0x0000_0000,
         0x0000_0000,
     ],
+    // 3DSTATE_VF_TOPOLOGY
     [
         0x784B_00FF,
         0x0000_003F,
@@ -255,6 +269,7 @@ pub const MASKS: [[u32; 16]; 17] = [
         0x0000_0000,
         0x0000_0000,
     ],
+    // 3DSTATE_VIEWPORT_STATE_POINTERS_CC
     [
         0x7823_00FF,
         0xFFFF_FFE0,
@@ -273,6 +288,7 @@ pub const MASKS: [[u32; 16]; 17] = [
         0x0000_0000,
         0x0000_0000,
     ],
+    // 3DSTATE_CC_STATE_POINTERS
     [
         0x780E_00FF,
         0xFFFF_FFC1,
@@ -291,6 +307,7 @@ pub const MASKS: [[u32; 16]; 17] = [
         0x0000_0000,
         0x0000_0000,
     ],
+    // 3DPRIMITIVE
     [
         0x7B00_07FF,
         0x0000_033F,

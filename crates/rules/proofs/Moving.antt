@@ -18,9 +18,9 @@ use Rattle.rules.specs.declared.After.the-variants.{Ends, To}
 use Rattle.rules.specs.declared.Outcome.the-variants.{Taken}
 use Rattle.rules.specs.Words.{bit, field}
 use Rattle.rules.specs.Windows.{Capture, windowsOf, dwordOf, Inside}
-use Rattle.rules.specs.Commands.{rows, theRow, lengthOf}
-use Rattle.rules.specs.Addresses.{accessAt, addressAt}
-use Rattle.rules.specs.Step.{endRow, startRow, headerAt, rowAt, lengthAt, dwordsAt, cursor, afterEnd, levelAfterStart, baseAfter, moveOf, stepOf}
+use Rattle.rules.specs.Commands.{rows, theRow, lengthOf, endRow, startRow}
+use Rattle.rules.specs.Uses.{accessAt, addressAt}
+use Rattle.rules.specs.Step.{headerAt, rowAt, lengthAt, dwordsAt, cursor, afterEnd, levelAfterStart, baseAfter, moveOf, stepOf}
 use Rattle.rules.specs.Walk.{start, Leads, stays, onward}
 use Rattle.rules.proofs.Stepping.{Passed, passed, moveAt, took}
 use Rattle.rules.proofs.Ranges.{in-batch}

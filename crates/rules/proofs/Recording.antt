@@ -28,7 +28,7 @@ use Rattle.rules.specs.Step.{budget, levelNumber, commandAt, stepOf}
 use Rattle.rules.specs.Walk.{trace, cut, start, walk, commandsOf}
 use Rattle.rules.specs.Records.{Recordable, recordOf, commandOf, wordsOf, commandsIn}
 use Rattle.rules.proofs.Searching.{and-left, and-right}
-use Rattle.rules.proofs.Tables.{each, at-each, rows-counted}
+use Rattle.rules.proofs.Tables.{each, at-each}
 use Rattle.rules.proofs.Stepping.{passed, took}
 use Rattle.rules.proofs.Ranges.{counted}
 use Rattle.rules.proofs.Walking.{walk-sound, walk-unsound}
@@ -41,7 +41,7 @@ short (byBit b f g) size = leb f 253 && leb g 253
 short (groups n) size = leb 1 size && leb (n * size) 254
 
 shorts-tested : each (λ r. short (theRow r .total) (groupSize r)) rowCount ≡ true
-unfolding each rows rowCount theRow groupSize short
+unfolding each rows theRow groupSize short
 shorts-tested = refl
 
 either-field : (t : Bool) (f g x : ℕ) → x ≡ cond t g f → f ≤ 253 → g ≤ 253 → x ≤ 253
@@ -88,7 +88,7 @@ fits-record c s l e =
       index = omega arith;
       level = level-fits (s .level);
       length = length-fits _ _ r (p .right);
-      row = omega (arith, rows-counted);
+      row = omega arith;
     })
 
 -- the fields of a record, one after the other

@@ -16,10 +16,11 @@ use Rattle.rules.specs.declared.Found.the-variants.{Nothing}
 use Rattle.rules.specs.declared.Fault.{Fault}
 use Rattle.rules.specs.declared.Verdict.{Verdict}
 use Rattle.rules.specs.declared.Verdict.the-variants.{Pass, Fails}
-use Rattle.rules.specs.Refusals.{firstFault, AllPass}
 use Rattle.rules.specs.Words.{firstOf}
+use Rattle.rules.specs.Refusals.{firstFault, AllPass}
 use Rattle.rules.specs.Windows.{Capture, windowsOf}
-use Rattle.rules.specs.Commands.{rowCount, lengthRight, bitWrong}
+use Rattle.rules.specs.Commands.{rowCount, lengthRight}
+use Rattle.rules.specs.Masks.{bitWrong}
 use Rattle.rules.specs.Values.{valueWrong}
 use Rattle.rules.specs.Addresses.{rangeWrong}
 use Rattle.rules.specs.Structures.{structureNowhere, structureBit, structureValue, structureChecks}

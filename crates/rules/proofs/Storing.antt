@@ -16,8 +16,8 @@ use Rattle.rules.specs.declared.Access.the-variants.{Unused, Reaches}
 use Rattle.rules.specs.Words.{bit, field, inGroup}
 use Rattle.rules.specs.Windows.{fits, Inside}
 use Rattle.rules.specs.Commands.{rows, theRow, groupSize, lengthOf, lengthRight}
-use Rattle.rules.specs.Values.{eightBytes, postSync}
-use Rattle.rules.specs.Addresses.{usesByRow, accessOf, accessAt, addressAt, rangeWrong}
+use Rattle.rules.specs.Uses.{eightBytes, postSync, usesByRow, accessOf, accessAt, addressAt}
+use Rattle.rules.specs.Addresses.{rangeWrong}
 use Rattle.rules.proofs.Ranges.{in-batch, in-scratch}
 
 -- an address that is used and whose range is not outside fits where its rule says

@@ -11,8 +11,9 @@ use lib.ListN.{length, getD}
 use lib.Dec.{leb, ltb, eqb}
 use borrow.Author.Tests.{leb-true, eqb-true, ne-eqb, lt-ltb, not-false}
 use Rattle.rules.specs.Words.{field, cleared, some}
+use Rattle.rules.specs.Commands.{Row, rows, rowCount, keyOf, rowFrom, rowOf, theRow}
+use Rattle.rules.specs.Masks.{headerMask, masksOf}
 use Rattle.rules.specs.Formats.{surfaceFormats, formatBits, blockBits, blockRule}
-use Rattle.rules.specs.Commands.{Row, rows, rowCount, keyOf, rowFrom, rowOf, theRow, headerMask, masksOf}
 use Rattle.rules.proofs.Searching.{some-left, some-right, or-cases, and-left, and-right}
 
 -- a test passes at each number below n
@@ -44,13 +45,9 @@ format-blocks code h =
     let r = and-right (leb (formatBits code) 256) _ (at-each (λ k. blockRule k (formatBits k)) 512 blocks-tested code (omega arith)) in
     eqb-true _ _ (ap (λ t. cond t (eqb (formatBits code) (blockBits code)) true) (sym (lt-ltb code 0x0C0 h)) ∙ r)
 
--- the table has seventeen rows, and each row's key is found as that row, so no key stands twice
-pub rows-counted : rowCount ≡ 17
-unfolding rows rowCount
-rows-counted = refl
-
+-- each row's key is found as that row, so no key stands twice
 keys-tested : each (λ r. eqb (rowOf (theRow r .key)) r) rowCount ≡ true
-unfolding each rows rowCount theRow keyOf rowFrom rowOf
+unfolding each rows theRow keyOf rowFrom rowOf
 keys-tested = refl
 
 pub key-found : (r : ℕ) → r < rowCount → rowOf (theRow r .key) ≡ r
@@ -77,6 +74,6 @@ same-type : (header : ℕ) → field (cleared header 16) 31 29 ≡ field header 
 same-type header = omega arith
 
 pub unknown-type : (header : ℕ) → (field header 31 29 ≡ 0 → ⊥) → (field header 31 29 ≡ 3 → ⊥) → rowOf header ≡ rowCount
-unfolding rowOf rowCount keyOf
+unfolding rowOf keyOf
 unknown-type header n m =
     rw (ne-eqb _ 0 n) (rowless (cleared header 16) rows types-tested (λ q. n (sym (same-type header) ∙ q)) (λ q. m (sym (same-type header) ∙ q)))

@@ -1,95 +1,12 @@
--- Document 01, "Address rules (13)": the addresses that a command uses, in one definition.
-use Prim.Native.Nat.{ℕ, _+_, _-_, _*_, _^_}
-use mathlib.Core.Path.{_≡_, refl}
-use mathlib.Core.Bool.{Bool, false, cond, not, _&&_}
-use mathlib.Core.List.{List, [], _∷_}
-use lib.ListN.{length, getD}
-use lib.Dec.{eqb}
+-- Document 01, "Address rules (13)": the refusal 13.
+use Prim.Native.Nat.{ℕ}
+use mathlib.Core.Bool.{Bool, false, not}
+use mathlib.Core.List.{List}
 use Rattle.rules.specs.declared.Windows.{Windows}
-use Rattle.rules.specs.declared.Allowed.the-variants.{BatchOnly, ScratchOnly, AnyWindow}
 use Rattle.rules.specs.declared.Access.{Access}
 use Rattle.rules.specs.declared.Access.the-variants.{Unused, Reaches}
-use Rattle.rules.specs.Words.{bit}
 use Rattle.rules.specs.Windows.{fits}
-use Rattle.rules.specs.Commands.{rows, rowCount, spot}
-use Rattle.rules.specs.Values.{eightBytes, postSync}
-
--- "Address rules (13)", place "its low dword": a use is asked of each dword of a command. It is given the command's dwords, the dword's own number,
--- and which dword of its group it is, and answers whether an address that the command uses has its low dword there.
-abbrev pub Uses : Type 0
-Uses = List ℕ → ℕ → ℕ → Access
-
--- "Address rules (13)" names no address of rows 0, 1, 3, 8, 9, 11 and 13 to 16
-abbrev pub noUse : Uses
-noUse d k j = Unused
-
--- "its low dword": it is the dword `low` of its group
-abbrev pub lowAt : ℕ → ℕ → Access → Access
-lowAt low j a = cond (eqb j low) a Unused
-
--- "row 2 target (4 bytes) in the batch window"
-abbrev pub startUse : Uses
-startUse d k j = lowAt 1 j (Reaches 4 BatchOnly)
-
--- "rows 4 (4 or 8 bytes) .. in scratch"
-abbrev pub storeUse : Uses
-storeUse d k j = lowAt 1 j (Reaches (cond (eightBytes d) 8 4) ScratchOnly)
-
--- "5 (4) .. in scratch"
-abbrev pub storeRegisterUse : Uses
-storeRegisterUse d k j = lowAt 2 j (Reaches 4 ScratchOnly)
-
--- "row 6 (4) in any window"
-abbrev pub loadRegisterUse : Uses
-loadRegisterUse d k j = lowAt 2 j (Reaches 4 AnyWindow)
-
--- "7 with post-sync (8) in scratch"
-abbrev pub pipeUse : Uses
-pipeUse d k j = lowAt 2 j (cond (eqb (postSync d) 0) Unused (Reaches 8 ScratchOnly))
-
--- a range of so many bytes, "with size not 0"; the size stands two dwords behind the low one
-abbrev pub sized : ℕ → Access
-sized size = cond (eqb size 0) Unused (Reaches size AnyWindow)
-
--- "Row 10 with bit 13 clear, bit 14 set and size not 0: the range in one window"
-abbrev pub vertexBufferUse : Uses
-vertexBufferUse d k j =
-    lowAt 2 j (cond (not (bit (getD d (k - 1) 0) 13) && bit (getD d (k - 1) 0) 14) (sized (getD d (k + 2) 0)) Unused)
-
--- "row 12 likewise with size not 0"
-abbrev pub indexBufferUse : Uses
-indexBufferUse d k j = lowAt 2 j (sized (getD d (k + 2) 0))
-
--- "Address rules (13)", by row
-unfoldable pub usesByRow : List Uses
-usesByRow =
-    -- 0 MI_NOOP, 1 MI_BATCH_BUFFER_END, 2 MI_BATCH_BUFFER_START
-    noUse ∷ noUse ∷ startUse
-    -- 3 MI_LOAD_REGISTER_IMM, 4 MI_STORE_DATA_IMM, 5 MI_STORE_REGISTER_MEM, 6 MI_LOAD_REGISTER_MEM
-    ∷ noUse ∷ storeUse ∷ storeRegisterUse ∷ loadRegisterUse
-    -- 7 PIPE_CONTROL, 8 PIPELINE_SELECT, 9 STATE_BASE_ADDRESS
-    ∷ pipeUse ∷ noUse ∷ noUse
-    -- 10 3DSTATE_VERTEX_BUFFERS, 11 3DSTATE_VERTEX_ELEMENTS, 12 3DSTATE_INDEX_BUFFER
-    ∷ vertexBufferUse ∷ noUse ∷ indexBufferUse
-    -- 13 to 16 use none
-    ∷ noUse ∷ noUse ∷ noUse ∷ noUse ∷ []
-
--- a line for each row of the table
-pub a-use-a-row : length usesByRow ≡ rowCount
-unfolding rows rowCount usesByRow
-a-use-a-row = refl
-
--- "row 2 target", "row 6": the uses of a row
-unfoldable pub accessOf : ℕ → Uses
-accessOf r = getD usesByRow r noUse
-
--- "its low dword": the address that the command uses with its low dword at k, if it does
-unfoldable pub accessAt : ℕ → List ℕ → ℕ → Access
-accessAt r dwords k = accessOf r dwords k (spot r k)
-
--- "An address takes two dwords"
-unfoldable pub addressAt : List ℕ → ℕ → ℕ
-addressAt dwords k = getD dwords k 0 + 2 ^ 32 * getD dwords (k + 1) 0
+use Rattle.rules.specs.Uses.{addressAt, accessAt}
 
 -- "an address range does not fit": one that is used
 abbrev pub accessWrong : Windows → ℕ → Access → Bool

@@ -1,10 +1,83 @@
 -- Document 01, "Commands": the table of rows, as data, and what is read off it.
 use Prim.Native.Nat.{ℕ, suc, _+_, _-_, _*_, _/_, _%_, _^_}
-use mathlib.Core.Bool.{Bool, true, cond, not, _&&_}
+use mathlib.Core.Path.{_≡_, refl}
+use mathlib.Core.Bool.{Bool, true, cond, _&&_}
 use mathlib.Core.List.{List, [], _∷_}
 use lib.ListN.{length, getD}
 use lib.Dec.{leb, eqb}
-use Rattle.rules.specs.Words.{bit, field, cleared, allowed, inGroup}
+use Rattle.rules.specs.Words.{bit, field, cleared, inGroup}
+
+-- "0|MI_NOOP"
+abbrev pub noopRow : ℕ
+noopRow = 0
+
+-- "1|MI_BATCH_BUFFER_END"
+abbrev pub endRow : ℕ
+endRow = 1
+
+-- "2|MI_BATCH_BUFFER_START"
+abbrev pub startRow : ℕ
+startRow = 2
+
+-- "3|MI_LOAD_REGISTER_IMM"
+abbrev pub setRegistersRow : ℕ
+setRegistersRow = 3
+
+-- "4|MI_STORE_DATA_IMM"
+abbrev pub storeRow : ℕ
+storeRow = 4
+
+-- "5|MI_STORE_REGISTER_MEM"
+abbrev pub storeRegisterRow : ℕ
+storeRegisterRow = 5
+
+-- "6|MI_LOAD_REGISTER_MEM"
+abbrev pub loadRegisterRow : ℕ
+loadRegisterRow = 6
+
+-- "7|PIPE_CONTROL"
+abbrev pub pipeRow : ℕ
+pipeRow = 7
+
+-- "8|PIPELINE_SELECT"
+abbrev pub selectRow : ℕ
+selectRow = 8
+
+-- "9|STATE_BASE_ADDRESS"
+abbrev pub baseRow : ℕ
+baseRow = 9
+
+-- "10|3DSTATE_VERTEX_BUFFERS"
+abbrev pub vertexBuffersRow : ℕ
+vertexBuffersRow = 10
+
+-- "11|3DSTATE_VERTEX_ELEMENTS"
+abbrev pub vertexElementsRow : ℕ
+vertexElementsRow = 11
+
+-- "12|3DSTATE_INDEX_BUFFER"
+abbrev pub indexBufferRow : ℕ
+indexBufferRow = 12
+
+-- "13|3DSTATE_VF_TOPOLOGY"
+abbrev pub topologyRow : ℕ
+topologyRow = 13
+
+-- "14|3DSTATE_VIEWPORT_STATE_POINTERS_CC"
+abbrev pub viewportRow : ℕ
+viewportRow = 14
+
+-- "15|3DSTATE_CC_STATE_POINTERS"
+abbrev pub colourRow : ℕ
+colourRow = 15
+
+-- "16|3DPRIMITIVE"
+abbrev pub primitiveRow : ℕ
+primitiveRow = 16
+
+-- the table's column "Row": how many there are
+abbrev pub rowCount : ℕ
+rowCount = 17
 
 -- the table's column "Header", what it says of the length: "the field in bits 7:0"
 pub data Length : Type 0 where
@@ -81,10 +154,10 @@ rows =
     ∷ row 0x7B000000 (bits 10 8) (exactly 5) (0x0000033F ∷ anyDword ∷ anyDword ∷ anyDword ∷ anyDword ∷ anyDword ∷ [])
     ∷ []
 
--- the table's column "Row": how many there are
-unfoldable pub rowCount : ℕ
+-- the rows are as many as they are said to be
+pub rows-counted : length rows ≡ rowCount
 unfolding rows
-rowCount = length rows
+rows-counted = refl
 
 -- "header not in the table": a number that is no row has a row that allows nothing
 abbrev noRow : Row
@@ -136,31 +209,6 @@ groupSize r = length (theRow r .masks)
 unfoldable pub lengthRight : ℕ → ℕ → Bool
 lengthRight r header = fieldRight (theRow r .total) (groupSize r) header
 
--- "the field in bits 7:0": these bits, of a header that has a field
-abbrev pub fieldBits : Length → ℕ
-fieldBits one = 0
-fieldBits (exactly f) = 0xFF
-fieldBits (byBit b f g) = 0xFF
-fieldBits (groups n) = 0xFF
-
--- the table's column "Header": the bits that a header may have, which are those that it is known by, its free bits and its field, three parts
--- that share no bit. Of the first a header in this row can have no others set than the key's own.
-abbrev pub headerMask : Row → ℕ
-headerMask r = r .key + (r .free + fieldBits (r .total))
-
--- "a table of rows, each row the masks of its dwords": the header first
-unfoldable pub masksOf : ℕ → List ℕ
-masksOf r = headerMask (theRow r) ∷ theRow r .masks
-
 -- "row number by dword within the command or group": which dword of its group the dword k of a command is, the header being 0
 abbrev pub spot : ℕ → ℕ → ℕ
 spot r k = inGroup (groupSize r) k
-
--- "Allowed bits, by dword": those of the dword k of a command. They do not depend on its dwords today; a rule that looks at other dwords would
--- stand here.
-unfoldable pub allowedAt : ℕ → List ℕ → ℕ → ℕ
-allowedAt r dwords k = getD (masksOf r) (spot r k) 0
-
--- 10: "a bit set that the table does not allow"
-unfoldable pub bitWrong : ℕ → List ℕ → ℕ → Bool
-bitWrong r dwords k = not (allowed (getD dwords k 0) (allowedAt r dwords k))

@@ -2,6 +2,8 @@ pub mod Words
 pub mod Refusals
 pub mod Windows
 pub mod Commands
+pub mod Uses
+pub mod Masks
 pub mod Formats
 pub mod Values
 pub mod Addresses

@@ -25,30 +25,12 @@ use Rattle.rules.specs.declared.Reason.the-variants.{BudgetSpent, RanOff
 use Rattle.rules.specs.Words.{bit, field, cleared, firstOf}
 use Rattle.rules.specs.Refusals.{inBatch, fault, refuseIf, refuseFound, firstFault}
 use Rattle.rules.specs.Windows.{Capture, windowsOf, dwordOf}
-use Rattle.rules.specs.Commands.{rowCount, rowOf, lengthOf, lengthRight, bitWrong}
+use Rattle.rules.specs.Commands.{endRow, startRow, baseRow, viewportRow, colourRow, rowCount, rowOf, lengthOf, lengthRight}
+use Rattle.rules.specs.Masks.{bitWrong}
+use Rattle.rules.specs.Uses.{addressAt}
 use Rattle.rules.specs.Values.{valueWrong}
-use Rattle.rules.specs.Addresses.{addressAt, rangeWrong}
+use Rattle.rules.specs.Addresses.{rangeWrong}
 use Rattle.rules.specs.Structures.{Asked, askedAt, structureChecks}
-
--- "A batch end": row 1, MI_BATCH_BUFFER_END
-abbrev pub endRow : ℕ
-endRow = 1
-
--- "A start": row 2, MI_BATCH_BUFFER_START
-abbrev pub startRow : ℕ
-startRow = 2
-
--- "Row 9": STATE_BASE_ADDRESS
-abbrev pub baseRow : ℕ
-baseRow = 9
-
--- "Row 14: CC_VIEWPORT"
-abbrev pub viewportRow : ℕ
-viewportRow = 14
-
--- "Row 15 with bit 0 set: COLOR_CALC_STATE"
-abbrev pub colourRow : ℕ
-colourRow = 15
 
 -- "tried per command": where a check is asked, which is in a capture, and where the walk stands in it
 pub record Here : Type 0 where

@@ -7,44 +7,37 @@ use lib.ListN.{length, getD}
 use lib.Dec.{leb, ltb, eqb}
 use Rattle.rules.specs.Words.{bit, field, some}
 use Rattle.rules.specs.Formats.{formatBits, knownTopology, knownRegister}
-use Rattle.rules.specs.Commands.{rows, rowCount, spot}
+use Rattle.rules.specs.Commands.{rowCount, spot}
+use Rattle.rules.specs.Uses.{eightBytes, postSync}
 
--- "Value rules (12)", "first such dword": a rule is asked of each dword of a command. It is given the command's dwords, which dword of its group
--- this one is (the header is 0), and the dword itself, and answers whether the rule is broken there.
+-- "Value rules (12)", "first such dword": a rule is asked of each dword of a command. It is given what a use is given (`Uses`), the command's dwords,
+-- the dword's own number, which dword of its group it is, and the dword itself, and answers whether the rule is broken there.
 abbrev pub Rule : Type 0
-Rule = List ℕ → ℕ → ℕ → Bool
+Rule = List ℕ → ℕ → ℕ → ℕ → Bool
 
 -- "Value rules (12)" has no line for rows 0, 1, 8, 9, 14 and 15
 abbrev pub noRule : Rule
-noRule d j w = false
+noRule d k j w = false
 
 -- "Row 2: bit 8 set."
 abbrev pub startRule : Rule
-startRule d j w = eqb j 0 && not (bit w 8)
+startRule d k j w = eqb j 0 && not (bit w 8)
 
 -- "Rows 3, 5, 6: register is .."
 abbrev pub registerRule : Rule
-registerRule d j w = eqb j 1 && not (knownRegister w)
-
--- whether a store of row 4 is one of eight bytes: "bit 21 and field 3 go together"
-abbrev pub eightBytes : List ℕ → Bool
-eightBytes d = bit (getD d 0 0) 21
+registerRule d k j w = eqb j 1 && not (knownRegister w)
 
 -- "Row 4: ..; an eight-byte store address is a multiple of 8."
 abbrev pub storeRule : Rule
-storeRule d j w = eqb j 1 && (eightBytes d && not (eqb (w % 8) 0))
-
--- "post-sync is dword 1 bits 15:14"
-abbrev pub postSync : List ℕ → ℕ
-postSync d = field (getD d 1 0) 15 14
+storeRule d k j w = eqb j 1 && (eightBytes d && not (eqb (w % 8) 0))
 
 -- "Row 7: .. If 0, dwords 2 to 5 are zero; else the address is a multiple of 8."
 abbrev pub pipeRule : Rule
-pipeRule d j w = cond (eqb (postSync d) 0) (leb 2 j && not (eqb w 0)) (eqb j 2 && not (eqb (w % 8) 0))
+pipeRule d k j w = cond (eqb (postSync d) 0) (leb 2 j && not (eqb w 0)) (eqb j 2 && not (eqb (w % 8) 0))
 
 -- "Row 10: index (31:26) at most 32, pitch (11:0) at most 2,048."
 abbrev pub vertexBufferRule : Rule
-vertexBufferRule d j w = eqb j 1 && (ltb 32 (field w 31 26) || ltb 2048 (field w 11 0))
+vertexBufferRule d k j w = eqb j 1 && (ltb 32 (field w 31 26) || ltb 2048 (field w 11 0))
 
 -- "component controls, in bits 30:28, 26:24, 22:20, 18:16"
 abbrev pub components : ℕ → List ℕ
@@ -61,21 +54,21 @@ componentsWrong w = some (ltb 4) (components w) || (eqb (field w 30 28) 0 || aft
 
 -- "Row 11: index at most 32; format (24:16) with an entry above 0 in SURFACE_FORMAT; component controls .."
 abbrev pub vertexElementRule : Rule
-vertexElementRule d j w =
+vertexElementRule d k j w =
     (eqb j 1 && (ltb 32 (field w 31 26) || eqb (formatBits (field w 24 16)) 0)) || (eqb j 2 && componentsWrong w)
 
 -- "Row 12: format (9:8) not 3."
 abbrev pub indexBufferRule : Rule
-indexBufferRule d j w = eqb j 1 && eqb (field w 9 8) 3
+indexBufferRule d k j w = eqb j 1 && eqb (field w 9 8) 3
 
 -- "Row 13: 01h..14h, 16h, 20h..3Fh (000)."
 abbrev pub topologyRule : Rule
-topologyRule d j w = eqb j 1 && not (knownTopology w)
+topologyRule d k j w = eqb j 1 && not (knownTopology w)
 
 -- "Row 16: dword 1 bit 9 not with header bit 10 (place dword 1); with bit 9, dword 1 bit 8 is 0 and dwords 3, 5, 6 are 0.
 -- Its topology field is ignored": no rule looks at it.
 abbrev pub primitiveRule : Rule
-primitiveRule d j w =
+primitiveRule d k j w =
     bit (getD d 1 0) 9
     && ((eqb j 1 && (bit (getD d 0 0) 10 || bit w 8)) || ((eqb j 3 || (eqb j 5 || eqb j 6)) && not (eqb w 0)))
 
@@ -95,7 +88,7 @@ valueRules =
 
 -- a line for each row of the table
 pub a-rule-a-row : length valueRules ≡ rowCount
-unfolding rows rowCount valueRules
+unfolding valueRules
 a-rule-a-row = refl
 
 -- "Row 2:", "Rows 3, 5, 6:": the rule of a row
@@ -104,4 +97,4 @@ ruleOf r = getD valueRules r noRule
 
 -- 12: "a value rule broken"
 unfoldable pub valueWrong : ℕ → List ℕ → ℕ → Bool
-valueWrong r dwords k = ruleOf r dwords (spot r k) (getD dwords k 0)
+valueWrong r dwords k = ruleOf r dwords k (spot r k) (getD dwords k 0)

@@ -1,4 +1,6 @@
-// The types that answers are made of. What they mean is said in specs/, in the order and words of document 01.
+// The types that answers are made of, and the names of the rows. What they mean is said in specs/, in the order and words of document 01.
+pub mod faults;
+pub mod names;
 
 // Why a capture is refused, in document 01's order: its numbers 1 to 21.
 pub enum Reason {

@@ -12,7 +12,8 @@ use borrow.Author.Tests.{eqb-true, ne-eqb, leb-true}
 use Rattle.rules.specs.declared.Found.the-variants.{At, Nothing}
 use Rattle.rules.specs.declared.Windows.{Windows}
 use Rattle.rules.specs.Words.{inGroup, firstFrom, firstOf}
-use Rattle.rules.specs.Commands.{rows, theRow, groupSize, masksOf}
+use Rattle.rules.specs.Commands.{rows, theRow, groupSize, rowCount}
+use Rattle.rules.specs.Masks.{masksOf}
 use Rattle.rules.proofs.Searching.{search-passes, search-stops}
 use Rattle.rules.proofs.Tables.{each, at-each}
 use Rattle.search.specs.declared.Sought.{Sought}
@@ -64,23 +65,23 @@ unfolding inGroup
 header-spot size = refl
 
 -- no group has more than fifteen dwords
-sizes-tested : each (λ r. leb (groupSize r) 15) 17 ≡ true
+sizes-tested : each (λ r. leb (groupSize r) 15) rowCount ≡ true
 unfolding each rows theRow groupSize
 sizes-tested = refl
 
-pub size-small : (r : ℕ) → r < 17 → groupSize r ≤ 15
-size-small r h = leb-true _ _ (at-each (λ k. leb (groupSize k) 15) 17 sizes-tested r h)
+pub size-small : (r : ℕ) → r < rowCount → groupSize r ≤ 15
+size-small r h = leb-true _ _ (at-each (λ k. leb (groupSize k) 15) rowCount sizes-tested r h)
 
 -- the table that the code lends has each row's masks, and allows nothing past them
-masks-tested : each (λ r. each (λ j. eqb (getD (getD maskTable r []) j 0) (getD (masksOf r) j 0)) 16) 17 ≡ true
+masks-tested : each (λ r. each (λ j. eqb (getD (getD maskTable r []) j 0) (getD (masksOf r) j 0)) 16) rowCount ≡ true
 unfolding each rows theRow masksOf maskRows maskTable
 masks-tested = refl
 
-pub table-mask : (r j : ℕ) → r < 17 → j < 16 → getD (getD maskTable r []) j 0 ≡ getD (masksOf r) j 0
+pub table-mask : (r j : ℕ) → r < rowCount → j < 16 → getD (getD maskTable r []) j 0 ≡ getD (masksOf r) j 0
 table-mask r j h k =
     eqb-true _ _
     (at-each (λ j. eqb (getD (getD maskTable r []) j 0) (getD (masksOf r) j 0)) 16
-    (at-each (λ r. each (λ j. eqb (getD (getD maskTable r []) j 0) (getD (masksOf r) j 0)) 16) 17 masks-tested r h) j k)
+    (at-each (λ r. each (λ j. eqb (getD (getD maskTable r []) j 0) (getD (masksOf r) j 0)) 16) rowCount masks-tested r h) j k)
 
 -- what is looked for at a dword, by its place in its group
 pub wrong-at-spot : (what : Sought) (w : Windows) (r : ℕ) (d : List ℕ) (k j : ℕ) → inGroup (groupSize r) k ≡ j → wrong what w r d k ≡ wrongAt what w r d k j

@@ -5,17 +5,19 @@ use mathlib.Core.List.{List}
 use lib.ListN.{getD}
 use Rattle.rules.specs.declared.Windows.{Windows}
 use Rattle.rules.specs.Words.{allowed}
-use Rattle.rules.specs.Commands.{masksOf, spot}
+use Rattle.rules.specs.Commands.{spot}
+use Rattle.rules.specs.Uses.{accessOf, addressAt}
+use Rattle.rules.specs.Masks.{allowedOf}
 use Rattle.rules.specs.Values.{ruleOf}
-use Rattle.rules.specs.Addresses.{accessOf, addressAt, accessWrong}
+use Rattle.rules.specs.Addresses.{accessWrong}
 use Rattle.search.specs.declared.Sought.{Sought}
 use Rattle.search.specs.declared.Sought.the-variants.{Bits, Values, Ranges}
 
 -- the dword k of a command, dword j of its group, is at fault
 unfoldable pub wrongAt : Sought → Windows → ℕ → List ℕ → ℕ → ℕ → Bool
-wrongAt Bits w r d k j = not (allowed (getD d k 0) (getD (masksOf r) j 0))
-wrongAt Values w r d k j = ruleOf r d j (getD d k 0)
-wrongAt Ranges w r d k j = accessWrong w (addressAt d k) (accessOf r d k j)
+wrongAt Bits w r d k j = not (allowed (getD d k 0) (allowedOf r d k j))
+wrongAt Values w r d k j = ruleOf r d k j (getD d k 0)
+wrongAt Ranges w r d k j = accessWrong w (addressAt d k) (accessOf r d k j (getD d k 0))
 
 -- the same, of the dword k by its number alone
 unfoldable pub wrong : Sought → Windows → ℕ → List ℕ → ℕ → Bool

@@ -5,17 +5,18 @@ ghost use Prim.Native.Nat.{_≤_, _<_};
 ghost use lib.ListN.{length, getD};
 ghost use Rattle.rules.specs.Words.{firstOf};
 ghost use Rattle.rules.specs.Formats.{surfaceFormats};
-ghost use Rattle.rules.specs.Commands.{groupSize};
-ghost use Rattle.rules.specs.Addresses.{accessWrong};
+ghost use Rattle.rules.specs.Commands.{rowCount, groupSize};
+ghost use Rattle.rules.specs.Masks.{allowedOf};
 ghost use Rattle.rows.specs.Masks.{maskTable};
 ghost use Rattle.search.specs.Search.{wrongAt, wrong};
 use commands::addresses::access_of;
 use commands::dwords::address_at;
 use commands::values::value_wrong;
 use rows::group_size;
-use rules::Access;
 use rules::Found;
 use rules::Windows;
+use rules::names::ROWS;
+use windows::access_wrong;
 
 // What a search over a command's dwords looks for: a bit that is not allowed (10), a value rule broken (12), a range that does not fit (13).
 pub enum Sought {
@@ -24,14 +25,12 @@ pub enum Sought {
     Ranges,
 }
 
-// Whether a range that is used does not fit.
-pub fn access_wrong(w: Windows, address: u64, access: Access) -> bool
-    ensures { λ r. ⌜ r ≡ accessWrong w address access ⌝ }
+// The bits that the dword k, the dword j of its group, may have. The row's masks are lent.
+fn allowed_of(row: usize, command: &[u32], k: usize, j: usize, masks: &[u32; 16]) -> u32
+    requires { ⌜ (j < 16) × (row < rowCount) × (now masks ≡ getD maskTable row []) ⌝ }
+    ensures { λ r. ⌜ r ≡ allowedOf row (now (command .entry)) k j ⌝ }
 {
-    match access {
-        Access::Unused => false,
-        Access::Reaches(bytes, allowed) => !windows::fits(w, allowed, address, bytes),
-    }
+    masks[j]
 }
 
 // Whether the dword k, the dword j of its group, is what is looked for. The row's masks and the formats are lent.
@@ -45,12 +44,12 @@ fn wrong_at(
     masks: &[u32; 16],
     formats: &[u16; 512],
 ) -> bool
-    requires { ⌜ (k < length (now command)) × (j < 16) × (row < 17) × (now masks ≡ getD maskTable row []) × (now formats ≡ surfaceFormats) ⌝ }
+    requires { ⌜ (k < length (now command)) × (j < 16) × (row < rowCount) × (now masks ≡ getD maskTable row []) × (now formats ≡ surfaceFormats) ⌝ }
     ensures { λ r. ⌜ r ≡ wrongAt what w row (now (command .entry)) k j ⌝ }
 {
     match what {
-        Sought::Bits => !words::allowed(command[k], masks[j]),
-        Sought::Values => value_wrong(row, command, j, command[k], formats),
+        Sought::Bits => !words::allowed(command[k], allowed_of(row, command, k, j, masks)),
+        Sought::Values => value_wrong(row, command, k, j, formats),
         Sought::Ranges => {
             let access = access_of(row, command, k, j);
             access_wrong(w, address_at(command, k), access)
@@ -64,10 +63,10 @@ pub fn first_wrong(
     w: Windows,
     row: usize,
     command: &[u32],
-    masks: &[[u32; 16]; 17],
+    masks: &[[u32; 16]; ROWS],
     formats: &[u16; 512],
 ) -> Found
-    requires { ⌜ (row < 17) × (groupSize row ≡ 0 → length (now command) ≤ 1) × (now masks ≡ maskTable) × (now formats ≡ surfaceFormats) ⌝ }
+    requires { ⌜ (row < rowCount) × (groupSize row ≡ 0 → length (now command) ≤ 1) × (now masks ≡ maskTable) × (now formats ≡ surfaceFormats) ⌝ }
     ensures { λ r. ⌜ r ≡ firstOf (wrong what w row (now (command .entry))) (length (now (command .entry))) ⌝ }
 {
     let len = command.len();

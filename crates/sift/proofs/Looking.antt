@@ -15,9 +15,11 @@ use Rattle.rules.specs.declared.Found.the-variants.{Nothing}
 use Rattle.rules.specs.declared.Access.{Access}
 use Rattle.rules.specs.declared.Windows.{Windows}
 use Rattle.rules.specs.Words.{allowed, inGroup, firstFrom, firstOf}
-use Rattle.rules.specs.Commands.{groupSize, masksOf, spot, allowedAt, bitWrong}
+use Rattle.rules.specs.Commands.{groupSize, spot}
+use Rattle.rules.specs.Uses.{Uses, noUse, accessOf, addressAt, accessAt}
+use Rattle.rules.specs.Masks.{allowedOf, masksOf, allowedAt, bitWrong}
 use Rattle.rules.specs.Values.{ruleOf, valueWrong}
-use Rattle.rules.specs.Addresses.{Uses, noUse, accessOf, addressAt, accessWrong, accessAt, rangeWrong}
+use Rattle.rules.specs.Addresses.{accessWrong, rangeWrong}
 use Rattle.rules.proofs.Searching.{search-passes, some-left, some-right, and-left, and-right}
 use Rattle.search.specs.declared.Sought.{Sought}
 use Rattle.search.specs.declared.Sought.the-variants.{Bits, Values, Ranges}
@@ -36,7 +38,7 @@ module _ (bad worse : ℕ → Bool) (h : (i : ℕ) → worse i ≡ false → bad
 
 -- so no search finds anything in a command that is clean
 pub clean-finds-nothing : (w : Windows) (r : ℕ) (d : List ℕ) → cleanOf w r d ≡ true → (what : Sought) → firstOf (wrong what w r d) (length d) ≡ Nothing
-unfolding faulty cleanOf wrong wrongAt allowedAt bitWrong valueWrong accessAt rangeWrong
+unfolding faulty cleanOf wrong wrongAt allowedOf allowedAt bitWrong valueWrong accessAt rangeWrong
 clean-finds-nothing w r d e what = finds-nothing (wrong what w r d) (faulty w r d) (among what) 0 (length d) e
   where
     among : (what : Sought) (i : ℕ) → faulty w r d i ≡ false → wrong what w r d i ≡ false
@@ -64,7 +66,7 @@ module _ (r : ℕ) (d : List ℕ) where
   -- the dwords from k on, where these are their masks
   bits-from : (k : ℕ) (ms : List ℕ) → ((i : ℕ) → i < length ms → getD (masksOf r) (spot r (k + i)) 0 ≡ getD ms i 0)
       → freeFrom (bitWrong r d) k (length ms) ≡ maskedFrom d k ms
-  unfolding freeFrom maskedFrom allowedAt bitWrong
+  unfolding freeFrom maskedFrom allowedOf allowedAt bitWrong
   bits-from k [] h = refl
   bits-from k (m ∷ ms) h =
       let e : getD (masksOf r) (spot r k) 0 ≡ m = ap (λ (i : ℕ). getD (masksOf r) (spot r i) 0) (omega arith) ∙ h 0 (omega arith) in
@@ -106,14 +108,14 @@ module _ (r : ℕ) (d : List ℕ) where
 
   -- the bits of the dword k, its value, and the range that starts there, by its place in its group
   pub bits-at : (k j m : ℕ) {b : Bool} → spot r k ≡ j → getD (masksOf r) j 0 ≡ m → b ≡ maskedFrom d k (m ∷ []) → b ≡ freeFrom (bitWrong r d) k 1
-  unfolding freeFrom maskedFrom allowedAt bitWrong
+  unfolding freeFrom maskedFrom allowedOf allowedAt bitWrong
   bits-at k j m s e f = rw (s, e, Bool·not-not) f
 
-  pub value-at : (k j : ℕ) {v : Bool} → spot r k ≡ j → v ≡ ruleOf r d j (getD d k 0) → not v ≡ freeFrom (valueWrong r d) k 1
+  pub value-at : (k j : ℕ) {v : Bool} → spot r k ≡ j → v ≡ ruleOf r d k j (getD d k 0) → not v ≡ freeFrom (valueWrong r d) k 1
   unfolding freeFrom valueWrong
   value-at k j {v} s e = rw (s, sym e, and-true)
 
-  pub range-at : (w : Windows) (k j : ℕ) {x : Bool} (a : Access) → spot r k ≡ j → accessOf r d k j ≡ a → x ≡ not (accessWrong w (addressAt d k) a)
+  pub range-at : (w : Windows) (k j : ℕ) {x : Bool} (a : Access) → spot r k ≡ j → accessOf r d k j (getD d k 0) ≡ a → x ≡ not (accessWrong w (addressAt d k) a)
       → x ≡ freeFrom (rangeWrong w r d) k 1
   unfolding freeFrom accessAt rangeWrong
   range-at w k j a s e f = rw (s, e, and-true) f
@@ -124,7 +126,7 @@ module _ (r : ℕ) (d : List ℕ) where
   no-ranges w k zero e = refl
   no-ranges w k (suc n) e =
       no-ranges w (k + 1) n e
-      ∙ ap (λ (f : Uses). not (accessWrong w (addressAt d k) (f d k (spot r k))) && freeFrom (rangeWrong w r d) (k + 1) n) (sym e)
+      ∙ ap (λ (f : Uses). not (accessWrong w (addressAt d k) (f d k (spot r k) (getD d k 0))) && freeFrom (rangeWrong w r d) (k + 1) n) (sym e)
 
 -- a dword of a group that starts at k
 pub spot-in : (r k i : ℕ) {k' : ℕ} → 1 ≤ k → (k - 1) % groupSize r ≡ 0 → i < groupSize r → k' ≡ k + i → spot r k' ≡ i + 1

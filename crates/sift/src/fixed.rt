@@ -5,9 +5,10 @@ ghost use mathlib.Core.Bool.{cond, not};
 ghost use Prim.Native.Nat.{_<_};
 ghost use lib.ListN.{length, getD};
 ghost use Rattle.rules.specs.Words.{bit};
+ghost use Rattle.rules.specs.Uses.{addressAt};
+ghost use Rattle.rules.specs.Masks.{bitWrong};
 ghost use Rattle.rules.specs.Formats.{surfaceFormats};
-ghost use Rattle.rules.specs.Commands.{bitWrong};
-ghost use Rattle.rules.specs.Addresses.{addressAt, accessWrong};
+ghost use Rattle.rules.specs.Addresses.{accessWrong};
 ghost use Rattle.sift.specs.Clean.{freeFrom, cleanOf};
 use crate::masks::four;
 use crate::masks::one;
@@ -20,7 +21,7 @@ use commands::dwords::address_at;
 use rules::Access;
 use rules::Allowed;
 use rules::Windows;
-use search::access_wrong;
+use windows::access_wrong;
 
 // Whether the address that starts at k fits, if it is used.
 pub fn held(w: Windows, d: &[u32], k: usize, access: Access) -> bool

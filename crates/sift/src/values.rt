@@ -14,7 +14,7 @@ pub fn one(row: usize, d: &[u32], k: usize, j: usize, formats: &[u16; 512]) -> b
     requires { ⌜ (k < length (now d)) × (spot row k ≡ j) × (now formats ≡ surfaceFormats) ⌝ }
     ensures { λ r. ⌜ r ≡ freeFrom (valueWrong row (now (d .entry))) k 1 ⌝ }
 {
-    !value_wrong(row, d, j, d[k], formats)
+    !value_wrong(row, d, k, j, formats)
 }
 
 pub fn two(row: usize, d: &[u32], k: usize, j: usize, formats: &[u16; 512]) -> bool

@@ -23,9 +23,10 @@ use Rattle.rules.specs.declared.Reason.the-variants.{BitNotAllowed, NestedStart
 use Rattle.rules.specs.Words.{firstOf}
 use Rattle.rules.specs.Refusals.{inBatch, fault, refuseIf, refuseFound, tried, firstFault}
 use Rattle.rules.specs.Windows.{Capture}
-use Rattle.rules.specs.Commands.{allowedAt, bitWrong}
+use Rattle.rules.specs.Uses.{accessAt}
+use Rattle.rules.specs.Masks.{allowedOf, allowedAt, bitWrong}
 use Rattle.rules.specs.Values.{valueWrong}
-use Rattle.rules.specs.Addresses.{accessAt, rangeWrong}
+use Rattle.rules.specs.Addresses.{rangeWrong}
 use Rattle.rules.specs.Structures.{Asked, structureNowhere, structureBit, structureValue, structureChecks, readAt, verdictOf}
 use Rattle.rules.specs.Step.{nested}
 use Rattle.rules.proofs.Searching.{first-found}
@@ -43,26 +44,26 @@ found-below bad n e = omega (arith, first-found bad 0 n e .below)
 -- the ways out of the checks of the dwords
 module _ (w : Windows) (r : ℕ) (d : List ℕ) (at : ℕ) (level : Level) where
   pub bits-fail : {k : ℕ} → firstOf (wrong Bits w r d) (length d) ≡ At k → Fails (fault BitNotAllowed inBatch (at + k)) ≡ contentOf w r d at level
-  unfolding contentOf wrong wrongAt bitWrong allowedAt
+  unfolding contentOf wrong wrongAt bitWrong allowedOf allowedAt
   bits-fail e = rw e
 
   module _ (b : firstOf (wrong Bits w r d) (length d) ≡ Nothing) where
     pub nested-fails : nested r level ≡ true → Fails (fault NestedStart inBatch at) ≡ contentOf w r d at level
-    unfolding contentOf wrong wrongAt bitWrong allowedAt
+    unfolding contentOf wrong wrongAt bitWrong allowedOf allowedAt
     nested-fails n = rw (b, n)
 
     module _ (n : nested r level ≡ false) where
       pub values-fail : {k : ℕ} → firstOf (wrong Values w r d) (length d) ≡ At k → Fails (fault ValueBroken inBatch (at + k)) ≡ contentOf w r d at level
-      unfolding contentOf wrong wrongAt bitWrong allowedAt valueWrong
+      unfolding contentOf wrong wrongAt bitWrong allowedOf allowedAt valueWrong
       values-fail e = rw (b, n, e)
 
       module _ (v : firstOf (wrong Values w r d) (length d) ≡ Nothing) where
         pub ranges-fail : {k : ℕ} → firstOf (wrong Ranges w r d) (length d) ≡ At k → Fails (fault RangeOutside inBatch (at + k)) ≡ contentOf w r d at level
-        unfolding contentOf wrong wrongAt bitWrong allowedAt valueWrong rangeWrong accessAt
+        unfolding contentOf wrong wrongAt bitWrong allowedOf allowedAt valueWrong rangeWrong accessAt
         ranges-fail e = rw (b, n, v, e)
 
         pub all-clear : firstOf (wrong Ranges w r d) (length d) ≡ Nothing → Pass ≡ contentOf w r d at level
-        unfolding contentOf wrong wrongAt bitWrong allowedAt valueWrong rangeWrong accessAt
+        unfolding contentOf wrong wrongAt bitWrong allowedOf allowedAt valueWrong rangeWrong accessAt
         all-clear e = rw (b, n, v, e)
 
 -- what passes them all
@@ -71,7 +72,7 @@ pub record Clear (w : Windows) (r : ℕ) (d : List ℕ) (level : Level) : Type 0
   pub unnested : nested r level ≡ false
 
 pub passes-clear : (w : Windows) (r : ℕ) (d : List ℕ) (at : ℕ) (level : Level) → contentOf w r d at level ≡ Pass → Clear w r d level
-unfolding contentOf wrong wrongAt bitWrong allowedAt valueWrong rangeWrong accessAt
+unfolding contentOf wrong wrongAt bitWrong allowedOf allowedAt valueWrong rangeWrong accessAt
 passes-clear w r d at level e =
     by (firstOf (wrong Bits w r d) (length d)) (nested r level) (firstOf (wrong Values w r d) (length d)) (firstOf (wrong Ranges w r d) (length d)) refl refl refl refl e
   where

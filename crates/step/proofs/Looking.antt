@@ -17,12 +17,14 @@ use Rattle.rules.specs.declared.Outcome.the-variants.{Refused}
 use Rattle.rules.specs.declared.Verdict.{Verdict}
 use Rattle.rules.specs.declared.Verdict.the-variants.{Pass, Fails}
 use Rattle.rules.specs.declared.Reason.the-variants.{UnknownHeader, WrongLength, PastTheWindow}
-use Rattle.rules.specs.Refusals.{inBatch, fault}
-use Rattle.rules.specs.Commands.{lengthOf, lengthRight, allowedAt, bitWrong}
-use Rattle.rules.specs.Values.{valueWrong}
-use Rattle.rules.specs.Addresses.{accessAt, rangeWrong}
-use Rattle.rules.specs.Step.{headerAt, rowAt, lengthAt, dwordsAt, nested, stepOf}
 use Rattle.rules.specs.Words.{firstOf}
+use Rattle.rules.specs.Refusals.{inBatch, fault}
+use Rattle.rules.specs.Commands.{lengthOf, lengthRight, rowCount}
+use Rattle.rules.specs.Uses.{accessAt}
+use Rattle.rules.specs.Masks.{allowedOf, allowedAt, bitWrong}
+use Rattle.rules.specs.Values.{valueWrong}
+use Rattle.rules.specs.Addresses.{rangeWrong}
+use Rattle.rules.specs.Step.{headerAt, rowAt, lengthAt, dwordsAt, nested, stepOf}
 use Rattle.rules.specs.declared.Found.the-variants.{Nothing}
 use Rattle.rules.proofs.Searching.{never-both, none-found}
 use Rattle.search.specs.declared.Sought.{Sought}
@@ -41,11 +43,11 @@ use Rattle.step.proofs.Ways.{fitted, content, dwords-are, unknown-heade
 
 -- the ways out of the search
 module _ (w : Windows) (batch : List ℕ) (at : ℕ) (level : Level) where
-  pub unknown-look : 17 ≤ rowAt batch at → Wrong (fault UnknownHeader inBatch at) ≡ lookOf w batch at level
+  pub unknown-look : rowCount ≤ rowAt batch at → Wrong (fault UnknownHeader inBatch at) ≡ lookOf w batch at level
   unfolding lookOf
   unknown-look h = rw (le-leb _ _ h)
 
-  module _ (k : rowAt batch at < 17) where
+  module _ (k : rowAt batch at < rowCount) where
     pub misfit-look : lengthRight (rowAt batch at) (headerAt batch at) ≡ false → Wrong (fault WrongLength inBatch at) ≡ lookOf w batch at level
     unfolding lookOf
     misfit-look e = rw (lt-leb _ _ k, e)
@@ -85,7 +87,7 @@ module _ (w : Windows) (batch : List ℕ) (at : ℕ) (level : Level) {row n : �
   pub counted-there : n ≡ lengthAt batch at
   counted-there = passed w row (drop at batch) q z .counted ∙ length-there batch at er
 
-  known-there : rowAt batch at < 17
+  known-there : rowAt batch at < rowCount
   known-there = omega (arith, passed w row (drop at batch) q z .known)
 
   right-there : lengthRight (rowAt batch at) (headerAt batch at) ≡ true
@@ -124,7 +126,7 @@ whole-by false true false Pass at n e = (refl, refl, refl, refl, same-length e)
 whole-by false true false (Fails f) at n e = absurd (unlike e)
 
 pub record Looked (w : Windows) (batch : List ℕ) (at : ℕ) (level : Level) (n : ℕ) : Type 0 where
-  pub known : rowAt batch at < 17
+  pub known : rowAt batch at < rowCount
   pub right : lengthRight (rowAt batch at) (headerAt batch at) ≡ true
   pub within : at + lengthAt batch at ≤ length batch
   pub passes : contentOf w (rowAt batch at) (dwordsAt batch at) at level ≡ Pass
@@ -133,7 +135,7 @@ pub record Looked (w : Windows) (batch : List ℕ) (at : ℕ) (level : Level) (n
 pub looked-whole : (w : Windows) (batch : List ℕ) (at : ℕ) (level : Level) {n : ℕ} → lookOf w batch at level ≡ Whole n → Looked w batch at level n
 unfolding lookOf
 looked-whole w batch at level e =
-    let t = whole-by (leb 17 (rowAt batch at)) (lengthRight (rowAt batch at) (headerAt batch at)) (ltb (length batch) (at + lengthAt batch at)) (contentOf w (rowAt batch at) (dwordsAt batch at) at level) at (lengthAt batch at) e in
+    let t = whole-by (leb rowCount (rowAt batch at)) (lengthRight (rowAt batch at) (headerAt batch at)) (ltb (length batch) (at + lengthAt batch at)) (contentOf w (rowAt batch at) (dwordsAt batch at) at level) at (lengthAt batch at) e in
     record { known = leb-false _ _ (t .0); right = t .1; within = ltb-false _ _ (t .2); passes = t .3; counted = t .4 }
 
 -- where a command can't be whole, something is wrong with it
@@ -148,7 +150,7 @@ free-of bad k zero h = refl
 free-of bad k (suc n) h = rw (h k (omega arith) (omega arith)) (free-of bad (k + 1) n (λ i a b. h i (omega arith) (omega arith)))
 
 nothing-found : (w : Windows) (r : ℕ) (d : List ℕ) → ((what : Sought) → firstOf (wrong what w r d) (length d) ≡ Nothing) → cleanOf w r d ≡ true
-unfolding faulty cleanOf wrong wrongAt allowedAt bitWrong valueWrong accessAt rangeWrong
+unfolding faulty cleanOf wrong wrongAt allowedOf allowedAt bitWrong valueWrong accessAt rangeWrong
 nothing-found w r d h = free-of (faulty w r d) 0 (length d) (λ i a b. rw (none Bits i a b, none Values i a b, none Ranges i a b))
   where
     none : (what : Sought) (i : ℕ) → 0 ≤ i → i < 0 + length d → wrong what w r d i ≡ false
@@ -178,10 +180,10 @@ module _ {w : Windows} {batch state : List ℕ} (s : Cursor) (f : Fitted w batch
   pub looked-wrong : {g : Fault} → s .at < length batch → lookOf w batch (s .at) (s .level) ≡ Wrong g → Refused g ≡ stepOf (captured w batch state) s
   unfolding lookOf
   looked-wrong {g} a e =
-      by (leb 17 (rowAt batch (s .at))) (lengthRight (rowAt batch (s .at)) (headerAt batch (s .at))) (ltb (length batch) (s .at + lengthAt batch (s .at)))
+      by (leb rowCount (rowAt batch (s .at))) (lengthRight (rowAt batch (s .at)) (headerAt batch (s .at))) (ltb (length batch) (s .at + lengthAt batch (s .at)))
       (contentOf w (rowAt batch (s .at)) (dwordsAt batch (s .at)) (s .at) (s .level)) refl refl refl refl e
     where
-      by : (u r p : Bool) (v : Verdict) → leb 17 (rowAt batch (s .at)) ≡ u → lengthRight (rowAt batch (s .at)) (headerAt batch (s .at)) ≡ r
+      by : (u r p : Bool) (v : Verdict) → leb rowCount (rowAt batch (s .at)) ≡ u → lengthRight (rowAt batch (s .at)) (headerAt batch (s .at)) ≡ r
           → ltb (length batch) (s .at + lengthAt batch (s .at)) ≡ p → contentOf w (rowAt batch (s .at)) (dwordsAt batch (s .at)) (s .at) (s .level) ≡ v
           → lookBy u r p v (s .at) (lengthAt batch (s .at)) ≡ Wrong g → Refused g ≡ stepOf (captured w batch state) s
       by true r p v eu er ep ev e = ap Refused (same-fault e) ∙ unknown-header _ s a (leb-true _ _ eu)

@@ -25,7 +25,7 @@ use Rattle.rules.specs.Commands.{Length, one, exactly, byBit, groups, rows, the
 use Rattle.rules.specs.Structures.{structureNowhere, structureBit, structureValue, structureChecks}
 use Rattle.rules.specs.Step.{Here, here, headerAt, rowAt, lengthAt, dwordsAt, pointerOf, ofStructure, ranOff, unknownHeader, wrongLength, pastTheWindow, bitNotAllowed, nestedStart, valueBroken, rangeOutside, baseNeverSet, stepChecks, levelNumber, moveOf, commandAt, stepOf}
 use Rattle.rules.proofs.Searching.{or-cases}
-use Rattle.rules.proofs.Tables.{each, at-each, rows-counted}
+use Rattle.rules.proofs.Tables.{each, at-each}
 use Rattle.rules.proofs.Stepping.{moveAt, takes, refuses}
 use Rattle.onward.specs.Onward.{moveFrom}
 use Rattle.step.specs.Parts.{captured, Fitted, orElse, contentOf, structuralOf}
@@ -108,13 +108,13 @@ module _ (c : Capture) (s : Cursor) where
   unfolding h ranOff
   on l = rw (lt-leb _ _ l)
 
-  unknown : 17 ≤ rowAt (c .batch) (s .at) → unknownHeader h ≡ Fails (fault UnknownHeader inBatch (s .at))
+  unknown : rowCount ≤ rowAt (c .batch) (s .at) → unknownHeader h ≡ Fails (fault UnknownHeader inBatch (s .at))
   unfolding h unknownHeader
-  unknown l = rw (rows-counted, le-leb _ _ l)
+  unknown l = rw (le-leb _ _ l)
 
-  known : rowAt (c .batch) (s .at) < 17 → unknownHeader h ≡ Pass
+  known : rowAt (c .batch) (s .at) < rowCount → unknownHeader h ≡ Pass
   unfolding h unknownHeader
-  known l = rw (rows-counted, lt-leb _ _ l)
+  known l = rw (lt-leb _ _ l)
 
   wrong : lengthRight (rowAt (c .batch) (s .at)) (headerAt (c .batch) (s .at)) ≡ false → wrongLength h ≡ Fails (fault WrongLength inBatch (s .at))
   unfolding h wrongLength
@@ -138,11 +138,11 @@ module _ (c : Capture) (s : Cursor) where
   ran-off l = sym (refuses c s (first-fails ranOff _ (off l)))
 
   module _ (a : s .at < length (c .batch)) where
-    pub unknown-header : 17 ≤ rowAt (c .batch) (s .at) → Refused (fault UnknownHeader inBatch (s .at)) ≡ stepOf c s
+    pub unknown-header : rowCount ≤ rowAt (c .batch) (s .at) → Refused (fault UnknownHeader inBatch (s .at)) ≡ stepOf c s
     unfolding stepChecks structureChecks h
     unknown-header l = sym (refuses c s (first-passes ranOff _ (on a) (first-fails unknownHeader _ (unknown l))))
 
-    module _ (k : rowAt (c .batch) (s .at) < 17) where
+    module _ (k : rowAt (c .batch) (s .at) < rowCount) where
       pub wrong-length : lengthRight (rowAt (c .batch) (s .at)) (headerAt (c .batch) (s .at)) ≡ false → Refused (fault WrongLength inBatch (s .at)) ≡ stepOf c s
       unfolding stepChecks structureChecks h
       wrong-length e = sym (refuses c s (first-passes ranOff _ (on a) (first-passes unknownHeader _ (known k) (first-fails wrongLength _ (wrong e)))))
@@ -211,19 +211,19 @@ one-counted (exactly f) header e = cc
 one-counted (byBit b f g) header e = cc
 one-counted (groups n) header e = cc
 
-groupless-tested : each (λ r. ltb 0 (groupSize r) || isOne (theRow r .total)) 17 ≡ true
+groupless-tested : each (λ r. ltb 0 (groupSize r) || isOne (theRow r .total)) rowCount ≡ true
 unfolding each rows theRow groupSize isOne
 groupless-tested = refl
 
-pub groupless : (r header : ℕ) → r < 17 → groupSize r ≡ 0 → lengthOf r header ≡ 1
+pub groupless : (r header : ℕ) → r < rowCount → groupSize r ≡ 0 → lengthOf r header ≡ 1
 unfolding lengthOf
 groupless r header h e =
     one-counted (theRow r .total) header
     (⊎-elim (λ t. absurd (omega (arith, ltb-true 0 (groupSize r) t))) (λ t. t)
-    (or-cases (ltb 0 (groupSize r)) _ (at-each (λ k. ltb 0 (groupSize k) || isOne (theRow k .total)) 17 groupless-tested r h)))
+    (or-cases (ltb 0 (groupSize r)) _ (at-each (λ k. ltb 0 (groupSize k) || isOne (theRow k .total)) rowCount groupless-tested r h)))
 
 -- so that the search's groups have dwords
-pub short : (batch : List ℕ) (at : ℕ) {row len : ℕ} → row < 17 → len ≡ lengthOf row (headerAt batch at) → groupSize row ≡ 0 → length (take (at + len - at) (drop at batch)) ≤ 1
+pub short : (batch : List ℕ) (at : ℕ) {row len : ℕ} → row < rowCount → len ≡ lengthOf row (headerAt batch at) → groupSize row ≡ 0 → length (take (at + len - at) (drop at batch)) ≤ 1
 short batch at {row} {len} h el e =
     let n = groupless row (headerAt batch at) h e in
     omega (arith, length-take (at + len - at) (drop at batch))

@@ -10,7 +10,7 @@ use Rattle.rules.specs.declared.Verdict.{Verdict}
 use Rattle.rules.specs.declared.Verdict.the-variants.{Pass, Fails}
 use Rattle.rules.specs.declared.Reason.the-variants.{UnknownHeader, WrongLength, PastTheWindow}
 use Rattle.rules.specs.Refusals.{inBatch, fault}
-use Rattle.rules.specs.Commands.{lengthRight}
+use Rattle.rules.specs.Commands.{lengthRight, rowCount}
 use Rattle.rules.specs.Step.{headerAt, rowAt, lengthAt, dwordsAt}
 use Rattle.step.specs.declared.looks.Look.{Look}
 use Rattle.step.specs.declared.looks.Look.the-variants.{Whole, Wrong}
@@ -31,5 +31,5 @@ isWrong (Wrong f) = true
 
 unfoldable pub lookOf : Windows → List ℕ → ℕ → Level → Look
 lookOf w batch at level =
-    lookBy (leb 17 (rowAt batch at)) (lengthRight (rowAt batch at) (headerAt batch at)) (ltb (length batch) (at + lengthAt batch at))
+    lookBy (leb rowCount (rowAt batch at)) (lengthRight (rowAt batch at) (headerAt batch at)) (ltb (length batch) (at + lengthAt batch at))
     (contentOf w (rowAt batch at) (dwordsAt batch at) at level) at (lengthAt batch at)

@@ -14,7 +14,7 @@ use Rattle.rules.specs.declared.Reason.the-variants.{BitNotAllowed, NestedStart
 use Rattle.rules.specs.Words.{firstOf}
 use Rattle.rules.specs.Refusals.{inBatch, fault, refuseIf, refuseFound}
 use Rattle.rules.specs.Windows.{Capture}
-use Rattle.rules.specs.Commands.{bitWrong}
+use Rattle.rules.specs.Masks.{bitWrong}
 use Rattle.rules.specs.Values.{valueWrong}
 use Rattle.rules.specs.Addresses.{rangeWrong}
 use Rattle.rules.specs.Structures.{structureNowhere, structureBit, structureValue}

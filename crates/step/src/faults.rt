@@ -5,14 +5,13 @@ ghost use lib.ListN.{length, getD};
 ghost use Rattle.rules.specs.declared.Verdict.the-variants.{Fails};
 ghost use Rattle.rules.specs.Refusals.{fault, inBatch};
 ghost use Rattle.rules.specs.Formats.{surfaceFormats};
-ghost use Rattle.rules.specs.Commands.{groupSize};
+ghost use Rattle.rules.specs.Commands.{rowCount, groupSize};
 ghost use Rattle.rules.specs.Structures.{verdictOf};
 ghost use Rattle.rules.specs.Step.{nested, pointerOf};
 ghost use Rattle.rows.specs.Masks.{maskTable};
 ghost use Rattle.step.specs.Parts.{captured, Fitted, SmallBase, contentOf, structuralOf};
 use commands::dwords::dword;
 use rules::Base;
-use rules::Fault;
 use rules::Found;
 use rules::Kind;
 use rules::Level;
@@ -21,18 +20,19 @@ use rules::Reading;
 use rules::Reason;
 use rules::Verdict;
 use rules::Windows;
+use rules::faults::in_batch;
+use rules::names::COLOUR_ROW;
+use rules::names::ROWS;
+use rules::names::START_ROW;
+use rules::names::VIEWPORT_ROW;
 use search::Sought;
 use search::first_wrong;
 
-// A fault in the batch.
-pub fn fails(reason: Reason, index: usize) -> Verdict
+// A fault in the batch, as a verdict.
+fn fails(reason: Reason, index: usize) -> Verdict
     ensures { λ r. ⌜ r ≡ Fails (fault reason inBatch index) ⌝ }
 {
-    Verdict::Fails(Fault {
-        reason,
-        window: 0,
-        index,
-    })
+    Verdict::Fails(in_batch(reason, index))
 }
 
 // Whether the row is a batch start, and the walk in a second-level batch.
@@ -41,7 +41,7 @@ pub fn is_nested(row: usize, level: Level) -> bool
 {
     match level {
         Level::First => false,
-        Level::Second(_) => row == 2,
+        Level::Second(_) => row == START_ROW,
     }
 }
 
@@ -52,10 +52,10 @@ pub fn content_fault(
     command: &[u32],
     at: usize,
     level: Level,
-    masks: &[[u32; 16]; 17],
+    masks: &[[u32; 16]; ROWS],
     formats: &[u16; 512],
 ) -> Verdict
-    requires { ⌜ (row < 17) × (groupSize row ≡ 0 → length (now command) ≤ 1) × (at + length (now command) < 2 ^ 63) × (now masks ≡ maskTable) × (now formats ≡ surfaceFormats) ⌝ }
+    requires { ⌜ (row < rowCount) × (groupSize row ≡ 0 → length (now command) ≤ 1) × (at + length (now command) < 2 ^ 63) × (now masks ≡ maskTable) × (now formats ≡ surfaceFormats) ⌝ }
     ensures { λ r. ⌜ r ≡ contentOf w row (now (command .entry)) at level ⌝ }
 {
     if let Found::At(k) = first_wrong(Sought::Bits, w, row, command, masks, formats) {
@@ -77,10 +77,10 @@ pub fn content_fault(
 pub fn pointer_of(row: usize, command: &[u32]) -> Pointer
     ensures { λ r. ⌜ r ≡ pointerOf row (now (command .entry)) ⌝ }
 {
-    if row == 14 {
+    if row == VIEWPORT_ROW {
         return Pointer::PointsTo(Kind::Viewport, dword(command, 1) / 32 * 32);
     }
-    if row != 15 {
+    if row != COLOUR_ROW {
         return Pointer::NoPointer;
     }
     let pointer = dword(command, 1);

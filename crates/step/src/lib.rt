@@ -16,11 +16,11 @@ use onward::move_of;
 use rows::row_of;
 use rules::Command;
 use rules::Cursor;
-use rules::Fault;
 use rules::Outcome;
 use rules::Reason;
 use rules::Verdict;
 use rules::Windows;
+use rules::faults::in_batch;
 
 mod faults;
 pub mod looks;
@@ -29,11 +29,7 @@ pub mod looks;
 fn refused(reason: Reason, index: usize) -> Outcome
     ensures { λ r. ⌜ r ≡ Refused (fault reason inBatch index) ⌝ }
 {
-    Outcome::Refused(Fault {
-        reason,
-        window: 0,
-        index,
-    })
+    Outcome::Refused(in_batch(reason, index))
 }
 
 // One step of the walk: the first fault of the command at the cursor (6 to 17), or the command and where it leads.

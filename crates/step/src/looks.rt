@@ -11,7 +11,6 @@ ghost use Rattle.step.specs.Looks.{isWrong, lookOf};
 use crate::faults::content_fault;
 use crate::faults::is_nested;
 use quick::quick;
-use rows::ROWS;
 use rows::length_of;
 use rows::length_right;
 use rows::mask_table;
@@ -21,6 +20,8 @@ use rules::Level;
 use rules::Reason;
 use rules::Verdict;
 use rules::Windows;
+use rules::faults::in_batch;
+use rules::names::ROWS;
 
 // What the checks 7 to 13 leave: the command's length, or its first fault.
 pub enum Look {
@@ -31,11 +32,7 @@ pub enum Look {
 fn wrong(reason: Reason, index: usize) -> Look
     ensures { λ r. ⌜ r ≡ Wrong (fault reason inBatch index) ⌝ }
 {
-    Look::Wrong(Fault {
-        reason,
-        window: 0,
-        index,
-    })
+    Look::Wrong(in_batch(reason, index))
 }
 
 // The first fault of a command with which something is wrong, by the checks one after the other. It ends the run, so that it is asked for at most

@@ -30,7 +30,8 @@ use Rattle.rules.specs.declared.Verdict.the-variants.{Pass, Fails}
 use Rattle.rules.specs.Words.{bit}
 use Rattle.rules.specs.Refusals.{answerWith}
 use Rattle.rules.specs.Windows.{Capture, windowsOf, lengthsOf, windowFault}
-use Rattle.rules.specs.Step.{budget, spentAt, fullAt, baseRow, newBase, baseAfter, levelNumber, commandAt, stepOf}
+use Rattle.rules.specs.Commands.{baseRow}
+use Rattle.rules.specs.Step.{budget, spentAt, fullAt, newBase, baseAfter, levelNumber, commandAt, stepOf}
 use Rattle.rules.specs.Walk.{Run, ended, then, trace, traceFrom, cut, start, commandsOf, endOf, answerOf}
 use Rattle.rules.specs.Records.{recordOf, wordsOf, roomOf, writtenOf, Checked}
 use Rattle.rules.proofs.Searching.{never-both}

@@ -2,39 +2,10 @@
 ghost use mathlib.Core.Path.{_≡_};
 ghost use Prim.Native.Nat.{_^_, _<_};
 ghost use Rattle.rules.specs.declared.Verdict.the-variants.{Pass, Fails};
-ghost use Rattle.rules.specs.Refusals.{numberOf, answerWith};
+ghost use Rattle.rules.specs.Refusals.{answerWith};
 use rules::Answer;
 use rules::Fault;
-use rules::Reason;
-
-// Document 01's number for a reason.
-pub fn number(reason: Reason) -> u32
-    ensures { λ r. ⌜ r ≡ numberOf reason ⌝ }
-{
-    match reason {
-        Reason::WrongCounts => 1,
-        Reason::AddressUnaligned => 2,
-        Reason::EndsTooHigh => 3,
-        Reason::WindowsShare => 4,
-        Reason::BudgetSpent => 5,
-        Reason::RanOff => 6,
-        Reason::UnknownHeader => 7,
-        Reason::WrongLength => 8,
-        Reason::PastTheWindow => 9,
-        Reason::BitNotAllowed => 10,
-        Reason::NestedStart => 11,
-        Reason::ValueBroken => 12,
-        Reason::RangeOutside => 13,
-        Reason::BaseNeverSet => 14,
-        Reason::StructureNowhere => 15,
-        Reason::StructureBit => 16,
-        Reason::StructureValue => 17,
-        Reason::RecordsFull => 18,
-        Reason::FileSize => 19,
-        Reason::FileDistance => 20,
-        Reason::BufferShort => 21,
-    }
-}
+use rules::faults::number;
 
 // The answer of a run that a fault ended after so many commands.
 pub fn refusal(f: Fault, count: usize) -> Answer

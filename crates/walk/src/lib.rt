@@ -5,7 +5,7 @@ ghost use lib.ListN.{length};
 ghost use lib.Dec.{eqb};
 ghost use Rattle.rules.specs.declared.Verdict.the-variants.{Fails};
 ghost use Rattle.rules.specs.Refusals.{answerWith};
-ghost use Rattle.rules.specs.Windows.{windowsOf};
+ghost use Rattle.rules.specs.Windows.{windowLimit, windowsOf};
 ghost use Rattle.rules.specs.Step.{budget, spentAt, fullAt, levelNumber};
 ghost use Rattle.rules.specs.Walk.{start};
 ghost use Rattle.rules.specs.Records.{startingBase, Checked};
@@ -26,6 +26,7 @@ use rules::Reason;
 use rules::Verdict;
 use rules::Window;
 use rules::Windows;
+use rules::faults::in_batch;
 use step::step;
 
 pub mod answers;
@@ -42,7 +43,7 @@ fn run<'a>(
     base: Base,
     records: &mut [u32],
 ) -> Answer
-    requires { ⌜ (Fitted w (now batch) (now state)) × (length (now batch) ≤ 4096) × (length (now state) ≤ 4096) × (SmallBase base) ⌝ }
+    requires { ⌜ (Fitted w (now batch) (now state)) × (length (now batch) ≤ windowLimit) × (length (now state) ≤ windowLimit) × (SmallBase base) ⌝ }
     ensures { λ r. ⌜ Ran base (captured w (now (batch .entry)) (now (state .entry))) (now (records .entry)) r (now (records .exit)) ⌝ }
 {
     let formats = formats::SURFACE_FORMATS;
@@ -159,22 +160,14 @@ fn fresh(s: Cursor) -> Cursor
 fn full(at: usize) -> Fault
     ensures { λ r. ⌜ r ≡ fullAt at ⌝ }
 {
-    Fault {
-        reason: Reason::RecordsFull,
-        window: 0,
-        index: at,
-    }
+    in_batch(Reason::RecordsFull, at)
 }
 
 // The budget is spent, and the run has come to the position.
 fn spent(at: usize) -> Fault
     ensures { λ r. ⌜ r ≡ spentAt at ⌝ }
 {
-    Fault {
-        reason: Reason::BudgetSpent,
-        window: 0,
-        index: at,
-    }
+    in_batch(Reason::BudgetSpent, at)
 }
 
 // The windows of a capture, as numbers.

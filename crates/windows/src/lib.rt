@@ -11,13 +11,15 @@ ghost use Rattle.rules.specs.Words.{some, someTwo};
 ghost use Rattle.rules.specs.Refusals.{fault, inBatch};
 ghost use Rattle.rules.specs.Windows.{lent, listed, end, windowLimit, countsWrong, unaligned, endsTooHigh, shareByte, windowFault};
 ghost use Rattle.rules.specs.Windows.{fits, holdsDwords, heldAt, partOf};
+ghost use Rattle.rules.specs.Addresses.{accessWrong};
+use rules::Access;
 use rules::Allowed;
-use rules::Fault;
 use rules::Held;
 use rules::Reason;
 use rules::Verdict;
 use rules::Window;
 use rules::Windows;
+use rules::faults::in_batch;
 
 // The most dwords that the batch or the state may have.
 const WINDOW_LIMIT: usize = 4096;
@@ -85,11 +87,7 @@ fn some_share(w: Windows) -> bool
 fn refused(reason: Reason) -> Verdict
     ensures { λ r. ⌜ r ≡ Fails (fault reason inBatch 0) ⌝ }
 {
-    Verdict::Fails(Fault {
-        reason,
-        window: 0,
-        index: 0,
-    })
+    Verdict::Fails(in_batch(reason, 0))
 }
 
 // Whether the windows are as document 01 wants them: its numbers 1 to 4, in that order.
@@ -132,6 +130,16 @@ pub fn fits(w: Windows, allowed: Allowed, address: u64, bytes: u64) -> bool
         Allowed::BatchOnly => words::holds(w.batch, address, bytes),
         Allowed::ScratchOnly => words::holds(w.scratch, address, bytes),
         Allowed::AnyWindow => anywhere(w, address, bytes),
+    }
+}
+
+// Whether a range that is used does not fit.
+pub fn access_wrong(w: Windows, address: u64, access: Access) -> bool
+    ensures { λ r. ⌜ r ≡ accessWrong w address access ⌝ }
+{
+    match access {
+        Access::Unused => false,
+        Access::Reaches(bytes, allowed) => !fits(w, allowed, address, bytes),
     }
 }
 

@@ -1,6 +1,6 @@
 -- `onward::target` meets its contract: two dwords make the address.
 -- Assumes nothing.
-use Rattle.rules.specs.Addresses.{addressAt}
+use Rattle.rules.specs.Uses.{addressAt}
 use borrow.Author.Needs.{needs}
 use Rattle.onward.proofs.target.Statement.{statement}
 use Rattle.onward.proofs.target.Tie as tie

@@ -4,9 +4,11 @@ use mathlib.Core.Path.{refl}
 use native.Mathlib.Omega.{arith}
 use lib.Dec.{lit≤}
 use Rattle.rules.specs.Words.{inGroup}
-use Rattle.rules.specs.Commands.{rows, theRow, groupSize, masksOf}
+use Rattle.rules.specs.Commands.{rows, theRow, groupSize}
+use Rattle.rules.specs.Uses.{usesByRow, accessOf, accessAt}
+use Rattle.rules.specs.Masks.{masksOf}
 use Rattle.rules.specs.Values.{valueRules, ruleOf, valueWrong}
-use Rattle.rules.specs.Addresses.{usesByRow, accessOf, accessAt, rangeWrong}
+use Rattle.rules.specs.Addresses.{rangeWrong}
 use Rattle.sift.specs.Clean.{freeFrom}
 use Rattle.sift.proofs.Looking.{bits-are, row-bits-decide}
 use Rattle.quick.proofs.Lengths.{length-one, length-exactly, length-by-bit}

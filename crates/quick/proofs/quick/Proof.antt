@@ -1,6 +1,7 @@
 -- `quick::quick` meets its contract: `whole` for each row, and no command past the table.
 -- Assumes nothing.
 use borrow.Author.Needs.{needs}
+use Rattle.rules.specs.Commands.{rowCount}
 use Rattle.rows.proofs.RowLaws.{past}
 use Rattle.quick.proofs.Lengths.{no-row}
 use Rattle.quick.proofs.quick.Statement.{statement}
@@ -109,7 +110,7 @@ returns-17 : tie.Need-returns-17
 returns-17 c = rw (c .before .match .keys17) (c .whole17 .ensures)
 
 returns-18 : tie.Need-returns-18
-returns-18 c = no-row _ _ _ (past 17 _ (c .match .rest))
+returns-18 c = no-row _ _ _ (past rowCount _ (c .match .rest))
 
 pub quick-spec : {M : Type 1} → statement M
 quick-spec =

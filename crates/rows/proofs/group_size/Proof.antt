@@ -1,6 +1,6 @@
 -- `rows::group_size` meets its contract: an arm for each row of the table, and none past it.
 -- Assumes nothing.
-use Rattle.rules.specs.Commands.{rows, theRow, groupSize}
+use Rattle.rules.specs.Commands.{rows, theRow, groupSize, rowCount}
 use Rattle.rows.proofs.RowLaws.{past, size-past}
 use Rattle.rows.proofs.group_size.Statement.{statement}
 use Rattle.rows.proofs.group_size.Tie as tie
@@ -75,7 +75,7 @@ returns-17 c = rw (c .match .keys17)
 
 returns-18 : tie.Need-returns-18
 unfolding rows theRow groupSize
-returns-18 c = size-past _ (past 17 _ (c .match .rest))
+returns-18 c = size-past _ (past rowCount _ (c .match .rest))
 
 pub group-size-spec : {M : Type 1} → statement M
 group-size-spec =

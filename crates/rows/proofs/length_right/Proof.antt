@@ -1,7 +1,7 @@
 -- `rows::length_right` meets its contract: the rule of each row, by its kind.
 -- Assumes nothing.
 use mathlib.Core.Path.{refl}
-use Rattle.rules.specs.Commands.{rows, theRow, groupSize}
+use Rattle.rules.specs.Commands.{rows, theRow, groupSize, rowCount}
 use Rattle.rows.proofs.RowLaws.{past, right-none, right-exactly, right-store, right-groups, right-past}
 use borrow.Author.Needs.{needs}
 use Rattle.rows.proofs.length_right.Statement.{statement}
@@ -89,7 +89,7 @@ returns-17 c = rw (c .match .keys17) (right-exactly 16 _ 5 refl)
 
 returns-18 : tie.Need-returns-18
 unfolding rows theRow groupSize
-returns-18 c = right-past _ _ (past 17 _ (c .match .rest))
+returns-18 c = right-past _ _ (past rowCount _ (c .match .rest))
 
 pub length-right-spec : {M : Type 1} → statement M
 length-right-spec =

@@ -1,7 +1,7 @@
 -- `commands::dwords::address_at` meets its contract.
 -- Assumes nothing.
 use mathlib.Core.Path.{_∙_}
-use Rattle.rules.specs.Addresses.{addressAt}
+use Rattle.rules.specs.Uses.{addressAt}
 use borrow.Author.Needs.{needs}
 use Rattle.commands.proofs.dwords.address_at.Statement.{statement}
 use Rattle.commands.proofs.dwords.address_at.Tie as tie

@@ -32,7 +32,7 @@ returns-6 : tie.Need-returns-6
 returns-6 c = simp (eq-eqb _ _ (c .if6 .taken), ne-eqb _ _ (c .before .if5 .left), ne-eqb _ _ (c .before .before .if4 .left), ne-eqb _ _ (c .before .before .before .if2 .left), eq-eqb _ _ (c .before .before .before .before .if1 .left), ← c .before .before .before .before .before .dword .ensures)
 
 returns-7 : tie.Need-returns-7
-returns-7 c = behind-first (c .before .before .before .before .before .before .before .args .command .now) (c .before .before .before .before .before .before .before .args .j) (c .before .before .before .before .before .before .before .args .word) (rw (c .before .before .before .before .before .dword .ensures) at (c .before .before .before .before .if1 .left)) (search needs) (search needs) (search needs) (search needs)
+returns-7 c = behind-first (c .before .before .before .before .before .before .before .args .command .now) 0 (c .before .before .before .before .before .before .before .args .j) (c .before .before .before .before .before .before .before .args .word) (rw (c .before .before .before .before .before .dword .ensures) at (c .before .before .before .before .if1 .left)) (search needs) (search needs) (search needs) (search needs)
 
 pub primitive-wrong-spec : {M : Type 1} → statement M
 primitive-wrong-spec =

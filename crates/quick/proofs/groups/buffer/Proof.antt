@@ -4,7 +4,8 @@ use borrow.Author.Needs.{needs}
 use native.Mathlib.Omega.{arith}
 use mathlib.Core.Path.{refl}
 use borrow.Author.Tests.{not-true, not-false}
-use Rattle.rules.specs.Commands.{rows, theRow, groupSize, masksOf}
+use Rattle.rules.specs.Commands.{rows, theRow, groupSize}
+use Rattle.rules.specs.Masks.{masksOf}
 use Rattle.sift.proofs.Looking.{group-bits, joined, bits-fail, values-fail, ranges-decide}
 use Rattle.quick.proofs.WholeGroups.{spot-at, buffer-range}
 use Rattle.quick.proofs.groups.buffer.Statement.{statement}

@@ -4,8 +4,9 @@ use borrow.Author.Needs.{needs}
 use native.Mathlib.Omega.{arith}
 use mathlib.Core.Path.{refl}
 use borrow.Author.Tests.{not-true, not-false}
-use Rattle.rules.specs.Commands.{rows, theRow, groupSize, masksOf}
-use Rattle.rules.specs.Addresses.{usesByRow, accessOf}
+use Rattle.rules.specs.Commands.{rows, theRow, groupSize}
+use Rattle.rules.specs.Uses.{usesByRow, accessOf}
+use Rattle.rules.specs.Masks.{masksOf}
 use Rattle.sift.proofs.Looking.{group-bits, no-ranges, bits-fail, values-fail, values-decide}
 use Rattle.quick.proofs.WholeGroups.{spot-at, controls-fail, first-decides, second-kept}
 use Rattle.quick.proofs.groups.element.Statement.{statement}

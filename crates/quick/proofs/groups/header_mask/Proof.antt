@@ -1,7 +1,8 @@
 -- `quick::groups::header_mask` meets its contract: the masks, computed.
 -- Assumes nothing.
 use mathlib.Core.Path.{refl}
-use Rattle.rules.specs.Commands.{rows, theRow, masksOf}
+use Rattle.rules.specs.Commands.{rows, theRow}
+use Rattle.rules.specs.Masks.{masksOf}
 use Rattle.quick.proofs.WholeGroups.{last-of-groups}
 use Rattle.quick.proofs.groups.header_mask.Statement.{statement}
 use Rattle.quick.proofs.groups.header_mask.Tie as tie

@@ -7,8 +7,9 @@ use lib.ListN.{getD}
 use borrow.Author.Tests.{not-true, not-false}
 use Rattle.rules.specs.Words.{bit, inGroup}
 use Rattle.rules.specs.Commands.{rows, theRow, groupSize}
+use Rattle.rules.specs.Uses.{usesByRow, accessOf, accessAt}
 use Rattle.rules.specs.Values.{valueRules, ruleOf, valueWrong}
-use Rattle.rules.specs.Addresses.{usesByRow, accessOf, accessAt, rangeWrong}
+use Rattle.rules.specs.Addresses.{rangeWrong}
 use Rattle.sift.specs.Clean.{freeFrom}
 use Rattle.sift.proofs.Looking.{range-at, row-bits-fail, row-values-fail, row-ranges-decide, either-length, only-second}
 use Rattle.sift.proofs.fixed.store.Statement.{statement}

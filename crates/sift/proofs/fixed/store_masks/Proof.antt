@@ -5,7 +5,8 @@ use mathlib.Core.Path.{refl, sym, ap, _∙_}
 use lib.ListN.{getD}
 use lib.Dec.{lit≤}
 use Rattle.rules.specs.Words.{bit}
-use Rattle.rules.specs.Commands.{rows, theRow, masksOf, bitWrong}
+use Rattle.rules.specs.Commands.{rows, theRow}
+use Rattle.rules.specs.Masks.{masksOf, bitWrong}
 use Rattle.sift.specs.Clean.{freeFrom}
 use Rattle.sift.proofs.Looking.{masks-joined, bits-are, either-length}
 use Rattle.sift.proofs.fixed.store_masks.Statement.{statement}

@@ -8,9 +8,11 @@ use borrow.Author.Tests.{not-true, not-false}
 use Rattle.rules.specs.declared.Access.the-variants.{Reaches}
 use Rattle.rules.specs.declared.Allowed.the-variants.{ScratchOnly}
 use Rattle.rules.specs.Words.{inGroup}
-use Rattle.rules.specs.Commands.{rows, theRow, groupSize, masksOf}
+use Rattle.rules.specs.Commands.{rows, theRow, groupSize}
+use Rattle.rules.specs.Uses.{usesByRow, accessOf, accessAt}
+use Rattle.rules.specs.Masks.{masksOf}
 use Rattle.rules.specs.Values.{valueRules, ruleOf, valueWrong}
-use Rattle.rules.specs.Addresses.{usesByRow, accessOf, accessAt, rangeWrong}
+use Rattle.rules.specs.Addresses.{rangeWrong}
 use Rattle.sift.specs.Clean.{freeFrom}
 use Rattle.sift.proofs.Looking.{bits-are, range-at, row-bits-fail, row-values-fail, row-ranges-decide}
 use Rattle.sift.proofs.fixed.store_register.Statement.{statement}

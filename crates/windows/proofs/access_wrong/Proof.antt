@@ -1,10 +1,10 @@
--- `search::access_wrong` meets its contract, by the two cases of an access.
+-- `windows::access_wrong` meets its contract, by the two cases of an access.
 -- Assumes nothing.
 use mathlib.Core.Path.{ap}
 use mathlib.Core.Bool.{not}
 use borrow.Author.Needs.{needs}
-use Rattle.search.proofs.access_wrong.Statement.{statement}
-use Rattle.search.proofs.access_wrong.Tie as tie
+use Rattle.windows.proofs.access_wrong.Statement.{statement}
+use Rattle.windows.proofs.access_wrong.Tie as tie
 
 enum-told : tie.Need-enum-told
 enum-told c = search needs

@@ -1,9 +1,9 @@
--- `walk::answers::number` meets its contract: a number for each reason.
+-- `rules::faults::number` meets its contract: a number for each reason.
 -- Assumes nothing.
 use Rattle.rules.specs.Refusals.{numberOf}
 use borrow.Author.Needs.{needs}
-use Rattle.walk.proofs.answers.number.Statement.{statement}
-use Rattle.walk.proofs.answers.number.Tie as tie
+use Rattle.rules.proofs.faults.number.Statement.{statement}
+use Rattle.rules.proofs.faults.number.Tie as tie
 
 enum-told : tie.Need-enum-told
 enum-told c = search needs

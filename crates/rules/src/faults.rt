@@ -1,0 +1,45 @@
+// Document 01's number of a reason, and a fault in the batch.
+ghost use mathlib.Core.Path.{_≡_};
+ghost use Rattle.rules.specs.Refusals.{inBatch, fault, numberOf};
+use crate::Fault;
+use crate::Reason;
+
+// Document 01's number for a reason.
+pub fn number(reason: Reason) -> u32
+    ensures { λ r. ⌜ r ≡ numberOf reason ⌝ }
+{
+    match reason {
+        Reason::WrongCounts => 1,
+        Reason::AddressUnaligned => 2,
+        Reason::EndsTooHigh => 3,
+        Reason::WindowsShare => 4,
+        Reason::BudgetSpent => 5,
+        Reason::RanOff => 6,
+        Reason::UnknownHeader => 7,
+        Reason::WrongLength => 8,
+        Reason::PastTheWindow => 9,
+        Reason::BitNotAllowed => 10,
+        Reason::NestedStart => 11,
+        Reason::ValueBroken => 12,
+        Reason::RangeOutside => 13,
+        Reason::BaseNeverSet => 14,
+        Reason::StructureNowhere => 15,
+        Reason::StructureBit => 16,
+        Reason::StructureValue => 17,
+        Reason::RecordsFull => 18,
+        Reason::FileSize => 19,
+        Reason::FileDistance => 20,
+        Reason::BufferShort => 21,
+    }
+}
+
+// A fault in the batch, at this dword.
+pub fn in_batch(reason: Reason, index: usize) -> Fault
+    ensures { λ r. ⌜ r ≡ fault reason inBatch index ⌝ }
+{
+    Fault {
+        reason,
+        window: 0,
+        index,
+    }
+}
