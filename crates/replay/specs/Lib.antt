@@ -1,2 +1,3 @@
 pub mod Streamer
 pub mod Runs
+pub mod Uses
