@@ -1,5 +1,5 @@
--- WHAT A COMMAND DOES, row by row, for every machine, wherever its windows lie, whatever the hardware gives and however many commands were before. The
--- header is in the table and the dwords that are used lie in the batch (`Whole`); where that is not so, the streamer fails (proofs/Failing).
+-- WHAT A COMMAND DOES, row by row: for every machine, wherever its windows lie, whatever the hardware gives and however many commands were before. The
+-- command is `Whole` (specs/Uses); where it is not, the streamer fails, and proofs/Failing says where else it does.
 -- Assumes nothing.
 use Prim.Native.Nat.{ℕ, zero, suc, _+_, _-_, _*_, _/_, _%_, _≤_, _<_, suc-le-suc}
 use native.Mathlib.Nat.{le-of-suc-le-suc, not-suc-le-zero}
@@ -11,7 +11,8 @@ use mathlib.Core.Option.{Option, some}
 use lib.ListN.{length}
 use borrow.Author.Tests.{le-leb, eq-eqb, ne-eqb}
 use Rattle.rules.specs.Words.{bit}
-use Rattle.replay.specs.Streamer.{Map, Machine, Effect, Step, goes, ends, Hardware, Place, batchWord, stateWord, scratchWord, outside, placeOf, loadFrom, onward, update, setPairs, endBatch, goingTo, startBatch, step}
+use Rattle.replay.specs.Streamer.{Map, Machine, Effect, Step, goes, ends, Hardware, Place, batchWord, stateWord, scratchWord, outside}
+use Rattle.replay.specs.Streamer.{placeOf, loadFrom, onward, update, setPairs, endBatch, goingTo, startBatch, step}
 use Rattle.replay.specs.Uses.{row, total, dword, dwords, address, pairs, StoringRow, OtherRow, toStore, storesAt, Whole}
 use Rattle.replay.proofs.Words.{WordsChanged, words-changed}
 use Rattle.replay.proofs.Steps.{step-end, step-start, step-registers, step-load, step-stores, step-other}
@@ -23,15 +24,26 @@ quietly m at second kept registers = goes (record {
   stored = [];
 })
 
--- a register is set, and no other
-module _ (registers : ℕ → ℕ) (offset value : ℕ) where
-  update-here : update registers offset value offset ≡ value
-  update-here = rw (eq-eqb offset offset refl)
+-- "All others go on by their length": so, behind the command, and with registers
+abbrev pub advanced : Machine → (ℕ → ℕ) → Step
+advanced m registers = quietly m (m .at + total m) (m .second) (m .kept) registers
 
-  update-elsewhere : (x : ℕ) → (x ≡ offset → ⊥) → update registers offset value x ≡ registers x
-  update-elsewhere x n = rw (ne-eqb x offset n)
+-- the registers after one was set
+pub record OneSet (before : ℕ → ℕ) (offset value : ℕ) (after : ℕ → ℕ) : Type 0 where
+  pub here : after offset ≡ value
+  pub elsewhere : (x : ℕ) → (x ≡ offset → ⊥) → after x ≡ before x
 
--- n pairs from the dword k on: a register that none of them names is as it was, and one that some name has the value of the last that does
+-- the registers after a command's pairs, of which pair j has its offset in dword 1 + 2 j and its value in the next: a register that pairs name has the
+-- value of the last that does, and one that none names is as it was
+pub record PairsSet (m : Machine) (after : ℕ → ℕ) : Type 0 where
+  pub named : (j : ℕ) → j < pairs m → ((i : ℕ) → j < i → i < pairs m → dword m (1 + 2 * j) ≡ dword m (1 + 2 * i) → ⊥)
+      → after (dword m (1 + 2 * j)) ≡ dword m (2 + 2 * j)
+  pub unnamed : (x : ℕ) → ((j : ℕ) → j < pairs m → x ≡ dword m (1 + 2 * j) → ⊥) → after x ≡ m .registers x
+
+update-sets : (registers : ℕ → ℕ) (offset value : ℕ) → OneSet registers offset value (update registers offset value)
+update-sets registers offset value = record { here = rw (eq-eqb offset offset refl); elsewhere = λ x n. rw (ne-eqb x offset n) }
+
+-- n pairs from the dword k on
 module _ (m : Machine) where
   two-more : (n : ℕ) → 2 * suc n ≡ suc (suc (2 * n))
   two-more n = omega arith
@@ -42,22 +54,24 @@ module _ (m : Machine) where
   next-pair : (k j : ℕ) → dword m (k + 2 * suc j) ≡ dword m (k + 1 + 1 + 2 * j)
   next-pair k j = ap (dword m) (omega arith)
 
-  unnamed : (n k : ℕ) (registers : ℕ → ℕ) (x : ℕ) → ((j : ℕ) → j < n → x ≡ dword m (k + 2 * j) → ⊥) → setPairs registers (dwords m k (2 * n)) x ≡ registers x
+  unnamed : (n k : ℕ) (registers : ℕ → ℕ) (x : ℕ) → ((j : ℕ) → j < n → x ≡ dword m (k + 2 * j) → ⊥)
+      → setPairs registers (dwords m k (2 * n)) x ≡ registers x
   unfolding dwords setPairs
   unnamed zero k registers x h = refl
   unnamed (suc n) k registers x h =
       rw (two-more n)
       (unnamed n (k + 1 + 1) _ x (λ j l e. h (suc j) (suc-le-suc l) (e ∙ sym (next-pair k j)))
-      ∙ update-elsewhere registers _ _ x (λ e. h 0 (omega arith) (e ∙ sym (first-pair k))))
+      ∙ update-sets registers _ _ .elsewhere x (λ e. h 0 (omega arith) (e ∙ sym (first-pair k))))
 
-  named : (n k : ℕ) (registers : ℕ → ℕ) (j : ℕ) → j < n → ((i : ℕ) → j < i → i < n → dword m (k + 2 * j) ≡ dword m (k + 2 * i) → ⊥)
+  named : (n k : ℕ) (registers : ℕ → ℕ) (j : ℕ) → j < n
+      → ((i : ℕ) → j < i → i < n → dword m (k + 2 * j) ≡ dword m (k + 2 * i) → ⊥)
       → setPairs registers (dwords m k (2 * n)) (dword m (k + 2 * j)) ≡ dword m (k + 1 + 2 * j)
   unfolding dwords setPairs
   named zero k registers j l h = absurd (not-suc-le-zero l)
   named (suc n) k registers zero l h =
       rw (two-more n, first-pair k, first-pair (k + 1))
       (unnamed n (k + 1 + 1) _ (dword m k) (λ j l e. h (suc j) (omega arith) (suc-le-suc l) (first-pair k ∙ e ∙ sym (next-pair k j)))
-      ∙ update-here registers (dword m k) _)
+      ∙ update-sets registers (dword m k) _ .here)
   named (suc n) k registers (suc j) l h =
       rw (two-more n, next-pair k j, next-pair (k + 1) j)
       (named n (k + 1 + 1) _ j (le-of-suc-le-suc l) (λ i a b e. h (suc i) (suc-le-suc a) (suc-le-suc b) (next-pair k j ∙ e ∙ sym (next-pair k i)))
@@ -83,7 +97,8 @@ module _ (map : Map) (hardware : Hardware) (done : ℕ) (m : Machine) (w : Whole
   unfolding endBatch
   end-returns e l k = step-end map hardware done m w e ∙ rw (l, k)
 
-  starts : row m ≡ 2 → (i : ℕ) → address m 1 ≡ map .batchAt + 4 * i → stepped ≡ goes (record { machine = goingTo m (bit (dword m 0) 22) (m .at + total m) i; stored = [] })
+  starts : row m ≡ 2 → (i : ℕ) → address m 1 ≡ map .batchAt + 4 * i
+      → stepped ≡ goes (record { machine = goingTo m (bit (dword m 0) 22) (m .at + total m) i; stored = [] })
   unfolding startBatch
   starts e i t =
       let a : map .batchAt ≤ address m 1 = omega arith in
@@ -92,42 +107,42 @@ module _ (map : Map) (hardware : Hardware) (done : ℕ) (m : Machine) (w : Whole
       step-start map hardware done m w e ∙ rw (le-leb _ _ a, eq-eqb _ 0 b, d)
 
   -- "A start with bit 22 clear goes to its target.": to the dword i of the batch, which has the address that it names
-  pub start-jumps : row m ≡ 2 → {i : ℕ} → address m 1 ≡ map .batchAt + 4 * i → bit (dword m 0) 22 ≡ false → stepped ≡ quietly m i (m .second) (m .kept) (m .registers)
+  pub start-jumps : row m ≡ 2 → {i : ℕ} → address m 1 ≡ map .batchAt + 4 * i → bit (dword m 0) 22 ≡ false
+      → stepped ≡ quietly m i (m .second) (m .kept) (m .registers)
   start-jumps e {i} t b = starts e i t ∙ rw b
 
   -- "With bit 22 set it keeps the position after itself and goes to its target at level 1."
-  pub start-calls : row m ≡ 2 → {i : ℕ} → address m 1 ≡ map .batchAt + 4 * i → bit (dword m 0) 22 ≡ true → stepped ≡ quietly m i true (some (m .at + total m)) (m .registers)
+  pub start-calls : row m ≡ 2 → {i : ℕ} → address m 1 ≡ map .batchAt + 4 * i → bit (dword m 0) 22 ≡ true
+      → stepped ≡ quietly m i true (some (m .at + total m)) (m .registers)
   start-calls e {i} t b = starts e i t ∙ rw b
 
-  -- "Row 3 sets registers": pair by pair, so that of two pairs with one offset the last counts; every other register is as it was
-  pub registers-set : row m ≡ 3
-      → (r : ℕ → ℕ) × (stepped ≡ quietly m (m .at + total m) (m .second) (m .kept) r)
-      × ((j : ℕ) → j < pairs m → ((i : ℕ) → j < i → i < pairs m → dword m (1 + 2 * j) ≡ dword m (1 + 2 * i) → ⊥) → r (dword m (1 + 2 * j)) ≡ dword m (2 + 2 * j))
-      × ((x : ℕ) → ((j : ℕ) → j < pairs m → x ≡ dword m (1 + 2 * j) → ⊥) → r x ≡ m .registers x)
-  registers-set e = (_, step-registers map hardware done m w e, named m (pairs m) 1 (m .registers), unnamed m (pairs m) 1 (m .registers))
+  -- "Row 3 sets registers"
+  pub registers-set : row m ≡ 3 → (r : ℕ → ℕ) × (stepped ≡ advanced m r) × PairsSet m r
+  registers-set e =
+      let r = setPairs (m .registers) (dwords m 1 (2 * pairs m)) in
+      (r, step-registers map hardware done m w e, record { named = named m (pairs m) 1 (m .registers); unnamed = unnamed m (pairs m) 1 (m .registers) })
 
-  -- "row 6 loads one", and no other
+  -- "row 6 loads one": from the place of the address in its dwords 2 and 3, to the register in its dword 1
   pub register-loaded : row m ≡ 6 → {v : ℕ} → loadFrom m (placeOf map m (address m 2)) ≡ some v
-      → (r : ℕ → ℕ) × (stepped ≡ quietly m (m .at + total m) (m .second) (m .kept) r)
-      × (r (dword m 1) ≡ v)
-      × ((x : ℕ) → (x ≡ dword m 1 → ⊥) → r x ≡ m .registers x)
+      → (r : ℕ → ℕ) × (stepped ≡ advanced m r) × OneSet (m .registers) (dword m 1) v r
   register-loaded e {v} l =
-      (update (m .registers) (dword m 1) v, step-load map hardware done m w e ∙ rw l, update-here (m .registers) (dword m 1) v, update-elsewhere (m .registers) (dword m 1) v)
+      (update (m .registers) (dword m 1) v, step-load map hardware done m w e ∙ rw l, update-sets (m .registers) (dword m 1) v)
 
-  -- "row 4 stores its data dwords; row 5 stores a register; .. row 7 with post-sync stores 8 bytes": the words `toStore`, each at its own address, in
-  -- order; no other word changes, and no register
-  pub words-stored : StoringRow (row m) → ((i : ℕ) → i < length (toStore hardware done m) → placeOf map m (storesAt m + 4 * i) ≡ outside → ⊥)
+  -- "row 4 stores its data dwords; row 5 stores a register; .. row 7 with post-sync stores 8 bytes": the words `toStore` from the address `storesAt` on
+  pub words-stored : StoringRow (row m)
+      → ((i : ℕ) → i < length (toStore hardware done m) → placeOf map m (storesAt m + 4 * i) ≡ outside → ⊥)
       → (e : Effect) × (stepped ≡ goes e) × (e .machine .at ≡ m .at + total m) × WordsChanged map m (storesAt m) (toStore hardware done m) e
   words-stored r k =
       let s = words-changed map (toStore hardware done m) m (storesAt m) k in
+      let n = s .0 .machine in
       let t = s .3 in (
-        record { machine = onward (total m) (s .0 .machine); stored = s .0 .stored },
+        record { machine = onward (total m) n; stored = s .0 .stored },
         step-stores map hardware done m w r ∙ rw (s .1),
         ap (λ (i : ℕ). i + total m) (s .2),
         record {
           stored = t .stored;
-          each = λ i h. same-words (total m) (s .0 .machine) (placeOf map m (storesAt m + 4 * i)) ∙ t .each i h;
-          elsewhere = λ q n. same-words (total m) (s .0 .machine) q ∙ t .elsewhere q n;
+          each = λ i h. same-words (total m) n (placeOf map m (storesAt m + 4 * i)) ∙ t .each i h;
+          elsewhere = λ q x. same-words (total m) n q ∙ t .elsewhere q x;
           second = t .second;
           kept = t .kept;
           registers = t .registers;
@@ -135,5 +150,5 @@ module _ (map : Map) (hardware : Hardware) (done : ℕ) (m : Machine) (w : Whole
       )
 
   -- "Other rows only advance."
-  pub others-advance : OtherRow (row m) → stepped ≡ quietly m (m .at + total m) (m .second) (m .kept) (m .registers)
+  pub others-advance : OtherRow (row m) → stepped ≡ advanced m (m .registers)
   others-advance r = step-other map hardware done m w r

@@ -1,169 +1,10 @@
--- Small runs of the streamer, computed: five tables, and the numbers of those that do not come out as they should. An example says whether the streamer
--- ends, fails or goes on, after exactly which commands, which words each of these stored, and all that the run has changed.
+-- Small runs of the streamer, computed: five tables in the words of proofs/Outcomes. The theorem of each says that no example of it comes out otherwise.
 -- Assumes nothing.
-use Prim.Native.Nat.{ℕ, zero, suc, _+_}
 use mathlib.Core.Path.{_≡_, refl}
-use mathlib.Core.Bool.{Bool, true, false, cond, _&&_}
+use mathlib.Core.Bool.{true}
 use mathlib.Core.List.{List, [], _∷_}
-use mathlib.Core.Option.{Option, some, none}
-use lib.ListN.{length, set}
-use lib.Dec.{eqb}
-use Rattle.rules.specs.Cases.{sameWords, namedIf}
-use Rattle.rules.specs.Records.{recordOf}
-use Rattle.rules.specs.Book.{book}
-use Rattle.replay.specs.Streamer.{Map, Machine, Step, goes, ends, fails, Hardware, fetched, fetchedWords, fetchedAddress, wordAt, placeOf, storeWords, setPairs, endBatch, startBatch, pipe, exec, step}
-use Rattle.replay.specs.Runs.{Moment, moment, commandAt, run, runOf}
-
--- how a run comes out: it ends at the last of its commands, it fails at the one after them, or it goes on to that one
-pub data Fate : Type 0 where
-  Ends : Fate
-  Fails : Fate
-  GoesOn : Fate
-
--- a command that was run: its record, and the addresses of the words that it stored
-pub record Ran : Type 0 where
-  pub word : ℕ
-  pub stored : List ℕ
-
--- what a run has changed: a word of a window, or a register
-pub data Change : Type 0 where
-  inBatch : ℕ → ℕ → Change
-  inState : ℕ → ℕ → Change
-  inScratch : ℕ → ℕ → Change
-  register : ℕ → ℕ → Change
-
--- an example: its number, the batch, level and kept position at the start, and what is expected
-pub record Example : Type 0 where
-  pub number : ℕ
-  pub batch : List ℕ
-  pub second : Bool
-  pub kept : Option ℕ
-  pub fate : Fate
-  pub ran : List Ran
-  pub changes : List Change
-
--- batch at 1000h, state at 2000h with two words, scratch at 3000h with four; each register holds its offset and one
-abbrev there : Map
-there = record { batchAt = 0x1000; stateAt = 0x2000; scratchAt = 0x3000 }
-
-abbrev hardware : Hardware
-hardware done = record { low = 0xAAAA0000 + done; high = 0xBBBB0000 + done }
-
-abbrev begin : Example → Machine
-begin e = record {
-  at = 0;
-  second = e .second;
-  kept = e .kept;
-  registers = λ offset. offset + 1;
-  batch = e .batch;
-  state = 0x51 ∷ 0x52 ∷ [];
-  scratch = 10 ∷ 11 ∷ 12 ∷ 13 ∷ [];
-}
-
--- the machine with these changes, as far as it is looked at
-abbrev with-words : Machine → List ℕ → List ℕ → List ℕ → (ℕ → ℕ) → Machine
-with-words m batch state scratch registers = record { at = m .at; second = m .second; kept = m .kept; registers = registers; batch = batch; state = state; scratch = scratch }
-
-abbrev changed : List Change → Machine → Machine
-changed [] m = m
-changed (inBatch i w ∷ cs) m = changed cs (with-words m (set (m .batch) i w) (m .state) (m .scratch) (m .registers))
-changed (inState i w ∷ cs) m = changed cs (with-words m (m .batch) (set (m .state) i w) (m .scratch) (m .registers))
-changed (inScratch i w ∷ cs) m = changed cs (with-words m (m .batch) (m .state) (set (m .scratch) i w) (m .registers))
-changed (register offset w ∷ cs) m = changed cs (with-words m (m .batch) (m .state) (m .scratch) (λ x. cond (eqb x offset) w (m .registers x)))
-
--- all words of the windows, and some registers: those that the examples name, and a few that they do not
-abbrev looked : (ℕ → ℕ) → List ℕ
-looked r = r 0 ∷ r 1 ∷ r 0x2400 ∷ r 0x2600 ∷ r 0x2604 ∷ r 0x2608 ∷ r 0x260C ∷ r 0x3000 ∷ []
-
-abbrev sameMachine : Machine → Machine → Bool
-sameMachine m n =
-    (sameWords (m .batch) (n .batch) && sameWords (m .state) (n .state)) && (sameWords (m .scratch) (n .scratch) && sameWords (looked (m .registers)) (looked (n .registers)))
-
-abbrev sameRan : List Ran → List Moment → Bool
-sameRan [] [] = true
-sameRan [] (x ∷ xs) = false
-sameRan (r ∷ rs) [] = false
-sameRan (r ∷ rs) (x ∷ xs) = (eqb (recordOf (x .command)) (r .word) && sameWords (x .stored) (r .stored)) && sameRan rs xs
-
-abbrev sameFate : Fate → Fate → Bool
-sameFate Ends Ends = true
-sameFate Ends Fails = false
-sameFate Ends GoesOn = false
-sameFate Fails Ends = false
-sameFate Fails Fails = true
-sameFate Fails GoesOn = false
-sameFate GoesOn Ends = false
-sameFate GoesOn Fails = false
-sameFate GoesOn GoesOn = true
-
-abbrev lastOf : Machine → List Moment → Machine
-lastOf m [] = m
-lastOf m (x ∷ xs) = lastOf (x .after) xs
-
--- what becomes of the streamer in so many commands, step by step
-pub record Outcome : Type 0 where
-  pub fate : Fate
-  pub moments : List Moment
-
-abbrev outcome : Fate → List Moment → Outcome
-outcome fate moments = record { fate = fate; moments = moments }
-
-abbrev before : Moment → Outcome → Outcome
-before x o = outcome (o .fate) (x ∷ o .moments)
-
-followed : ℕ → ℕ → Machine → Step → Outcome
-followed zero done m fails = outcome Fails []
-followed zero done m (ends e) = outcome GoesOn []
-followed zero done m (goes e) = outcome GoesOn []
-followed (suc n) done m fails = outcome Fails []
-followed (suc n) done m (ends e) = outcome Ends (moment m e ∷ [])
-followed (suc n) done m (goes e) =
-    let rest : Outcome = followed n (done + 1) (e .machine) (step there hardware (done + 1) (e .machine)) in before (moment m e) rest
-
--- it comes out so
-abbrev comesOut : Example → Outcome → Bool
-comesOut e o = sameFate (e .fate) (o .fate) && (sameRan (e .ran) (o .moments) && sameMachine (changed (e .changes) (begin e)) (lastOf (begin e) (o .moments)))
-
--- the run of so many commands (specs/Runs): it is one if the streamer ends there, and then it has these commands; and with one more or one fewer it is none
-abbrev isRun : Example → Option (List Moment) → Bool
-isRun e none = false
-isRun e (some xs) = comesOut e (outcome Ends xs)
-
-abbrev isNone : Option (List Moment) → Bool
-isNone none = true
-isNone (some xs) = false
-
-abbrev runsSo : Example → Fate → Bool
-runsSo e Ends = isRun e (runOf (length (e .ran)) there hardware (begin e)) && isNone (runOf (length (e .ran) + 1) there hardware (begin e))
-runsSo e Fails = isNone (runOf (length (e .ran)) there hardware (begin e)) && isNone (runOf (length (e .ran) + 1) there hardware (begin e))
-runsSo e GoesOn = isNone (runOf (length (e .ran)) there hardware (begin e))
-
-abbrev right : Example → Bool
-right e = comesOut e (followed (length (e .ran)) 0 (begin e) (step there hardware 0 (begin e))) && runsSo e (e .fate)
-
--- all that is shut of the streamer, under one name: whoever says `unfolding streamer` can compute a run
-unfoldable streamer : ℕ
-unfolding book fetched fetchedWords fetchedAddress wordAt placeOf storeWords setPairs endBatch startBatch pipe exec step commandAt run
-streamer = 0
-
-pub failing : List Example → List ℕ
-unfolding followed
-failing [] = []
-failing (e ∷ es) = namedIf (right e) (e .number) (failing es)
-
--- a line of the table: from level 0 with nothing kept, or from another start
-abbrev example : ℕ → List ℕ → Fate → List Ran → List Change → Example
-example number batch fate ran changes = record { number = number; batch = batch; second = false; kept = none; fate = fate; ran = ran; changes = changes }
-
-abbrev from : Bool → Option ℕ → Example → Example
-from second kept e = record { number = e .number; batch = e .batch; second = second; kept = kept; fate = e .fate; ran = e .ran; changes = e .changes }
-
--- a command that stored nothing, and one that stored
-abbrev quiet : ℕ → Ran
-quiet word = record { word = word; stored = [] }
-
-abbrev stored : ℕ → List ℕ → Ran
-stored word addresses = record { word = word; stored = addresses }
+use mathlib.Core.Option.{some, none}
+use Rattle.replay.proofs.Outcomes.{Ends, Fails, GoesOn, inBatch, inState, inScratch, register, Example, example, from, quiet, stored, failing}
 
 -- how it moves: ends, starts, and rows that only advance
 pub moving : List Example
@@ -286,21 +127,21 @@ otherFailures =
 
 -- every example comes out as it should
 pub moving-holds : failing moving ≡ []
-unfolding streamer failing moving
+unfolding failing moving
 moving-holds = refl
 
 pub storing-holds : failing storing ≡ []
-unfolding streamer failing storing
+unfolding failing storing
 storing-holds = refl
 
 pub setting-registers-holds : failing settingRegisters ≡ []
-unfolding streamer failing settingRegisters
+unfolding failing settingRegisters
 setting-registers-holds = refl
 
 pub fetching-outside-holds : failing fetchingOutside ≡ []
-unfolding streamer failing fetchingOutside
+unfolding failing fetchingOutside
 fetching-outside-holds = refl
 
 pub other-failures-hold : failing otherFailures ≡ []
-unfolding streamer failing otherFailures
+unfolding failing otherFailures
 other-failures-hold = refl

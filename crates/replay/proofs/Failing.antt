@@ -14,9 +14,11 @@ use borrow.Author.Tests.{eqb-true, leb-true}
 use Rattle.rules.specs.Words.{bit}
 use Rattle.rules.proofs.Searching.{either, and-left, and-right}
 use Rattle.replay.specs.Streamer.{Map, Machine, Effect, goes, ends, fails, Hardware, placeOf, storeWords, stores, endBatch, startBatch, step}
-use Rattle.replay.specs.Uses.{row, total, dword, address, StoringRow, operands, toStore, storesAt, Whole, Failure, fetch-outside, unknown-header, store-outside, load-outside, start-nowhere, nothing-kept}
+use Rattle.replay.specs.Uses.{row, total, dword, address, StoringRow, operands, toStore, storesAt, Whole}
+use Rattle.replay.specs.Uses.{Failure, fetch-outside, unknown-header, store-outside, load-outside, start-nowhere, nothing-kept}
 use Rattle.replay.proofs.Words.{outside-or-has, has-load, outside-stops, stopped-outside}
-use Rattle.replay.proofs.Steps.{Kind, an-end, a-start, sets, loads, storing, other, kind, stores-none, uses-outside, unknown-fails, whole-or, step-end, step-start, step-load, step-stores}
+use Rattle.replay.proofs.Steps.{Kind, an-end, a-start, sets, loads, storing, other, kind, stores-none, uses-outside, unknown-fails, whole-or}
+use Rattle.replay.proofs.Steps.{step-end, step-start, step-load, step-stores}
 use Rattle.replay.proofs.Doing.{end-ends, end-returns, start-jumps, start-calls, registers-set, register-loaded, others-advance}
 
 -- a target that is a dword from the batch's address on, and one that is not
@@ -81,7 +83,8 @@ module _ (map : Map) (hardware : Hardware) (done : ℕ) (m : Machine) where
       of-end w e true p (some back) q = absurd (going (end-returns map hardware done m w e p q))
       of-end w e false p k q = absurd (ending (end-ends map hardware done m w e p))
 
-      of-stores : Whole m → StoringRow (row m) → (o : Option Effect) → storeWords map m (storesAt m) (toStore hardware done m) ≡ o → Failure map hardware done m
+      of-stores : Whole m → StoringRow (row m) → (o : Option Effect) → storeWords map m (storesAt m) (toStore hardware done m) ≡ o
+          → Failure map hardware done m
       of-stores w r none q = let x = stopped-outside map (toStore hardware done m) m (storesAt m) q in store-outside (x .0) (x .1) (x .2)
       of-stores w r (some e) q = absurd (going (step-stores map hardware done m w r ∙ ap (stores (total m)) q))
 
@@ -89,9 +92,12 @@ module _ (map : Map) (hardware : Hardware) (done : ℕ) (m : Machine) where
       by w (an-end e) = of-end w e _ refl _ refl
       by w (a-start e) =
           start-nowhere e (λ i t.
-          ⊎-elim (λ b. going (start-calls map hardware done m w e t b)) (λ b. going (start-jumps map hardware done m w e t b)) (either (bit (dword m 0) 22)))
+          ⊎-elim (λ b. going (start-calls map hardware done m w e t b)) (λ b. going (start-jumps map hardware done m w e t b))
+          (either (bit (dword m 0) 22)))
       by w (sets e) = absurd (going (registers-set map hardware done m w e .1))
       by w (loads e) =
-          ⊎-elim (load-outside e) (λ h. absurd (going (register-loaded map hardware done m w e (has-load m (placeOf map m (address m 2)) (h .0) .1) .1))) (outside-or-has map m (address m 2))
+          ⊎-elim (load-outside e)
+          (λ h. let v = has-load m (placeOf map m (address m 2)) (h .0) in absurd (going (register-loaded map hardware done m w e (v .1) .1)))
+          (outside-or-has map m (address m 2))
       by w (storing r) = of-stores w r _ refl
       by w (other r) = absurd (going (others-advance map hardware done m w r))

@@ -7,4 +7,5 @@ pub mod Words
 pub mod Steps
 pub mod Doing
 pub mod Failing
+pub mod Outcomes
 pub mod Examples

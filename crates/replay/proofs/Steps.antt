@@ -14,9 +14,11 @@ use lib.Dec.{eqb, leb, ltb}
 use borrow.Author.Tests.{leb-true, leb-false, ltb-true, ltb-false, eqb-true, eqb-false, eq-eqb, ne-eqb}
 use Rattle.rules.specs.Commands.{rowCount, rowOf, lengthOf}
 use Rattle.rules.proofs.Searching.{either}
-use Rattle.replay.specs.Streamer.{Map, Machine, Step, fails, Hardware, withWord, fetched, fetchedWords, fetchedAddress, placeOf, loadFrom, storeWords, advance, stores, update, withRegisters, setPairs, endBatch, startBatch, pipe, exec, step}
+use Rattle.replay.specs.Streamer.{Map, Machine, Step, fails, Hardware, withWord, fetched, fetchedWords, fetchedAddress, placeOf, loadFrom}
+use Rattle.replay.specs.Streamer.{storeWords, advance, stores, update, withRegisters, setPairs, endBatch, startBatch, pipe, exec, step}
 use Rattle.replay.specs.Runs.{commandAt}
-use Rattle.replay.specs.Uses.{row, total, dword, dwords, address, postSync, pairs, StoringRow, OtherRow, operandsByRow, operands, storedByRow, toStore, storesAt, Whole}
+use Rattle.replay.specs.Uses.{row, total, dword, dwords, address, postSync, pairs, StoringRow, OtherRow}
+use Rattle.replay.specs.Uses.{operandsByRow, operands, storedByRow, toStore, storesAt, Whole}
 use Rattle.replay.proofs.Stores.{some-word}
 
 -- a word of a list that is not there, and one that is
@@ -121,7 +123,8 @@ module _ (map : Map) (hardware : Hardware) (done : ℕ) (m : Machine) where
   uses-outside (suc k) h o =
       fetch-then m 0 _ (rw (← total-is m, ← row-is m) (⊎-elim (λ e. rw e) (λ e. rw e (by (kind (row m)))) (either (eqb (row m) rowCount))))
     where
-      with-post-sync : (a b : Bool) → eqb (postSync m) 0 ≡ a → eqb (postSync m) 1 ≡ b → suc k ≤ cond a 1 (cond b 5 3) → fetched m 1 (pipe map hardware done m (total m)) ≡ fails
+      with-post-sync : (a b : Bool) → eqb (postSync m) 0 ≡ a → eqb (postSync m) 1 ≡ b → suc k ≤ cond a 1 (cond b 5 3)
+          → fetched m 1 (pipe map hardware done m (total m)) ≡ fails
       with-post-sync true b p q l = fetch-fails m 1 _ (omega arith)
       with-post-sync false true p q l = fetch-then m 1 _ (rw (p, q) (address-then m 2 _ (words-fail m 2 4 1 _ (omega arith) (omega arith))))
       with-post-sync false false p q l = fetch-then m 1 _ (rw (p, q) (address-fails m 2 _ (omega arith)))
@@ -172,7 +175,8 @@ module _ (map : Map) (hardware : Hardware) (done : ℕ) (m : Machine) (w : Whole
   step-registers e = let i = rw e at (w .inside) in front ∙ rw e (words-give m _ 1 _ (omega arith))
 
   pub step-load : row m ≡ 6
-      → step map hardware done m ≡ withWord (loadFrom m (placeOf map m (address m 2))) (λ v. advance (total m) (withRegisters m (update (m .registers) (dword m 1) v)))
+      → step map hardware done m
+      ≡ withWord (loadFrom m (placeOf map m (address m 2))) (λ v. advance (total m) (withRegisters m (update (m .registers) (dword m 1) v)))
   unfolding exec operands
   step-load e = let i = rw e at (w .inside) in front ∙ rw e (fetch-gives m 1 _ (omega arith) ∙ address-gives m 2 _ (omega arith))
 
@@ -187,11 +191,15 @@ module _ (map : Map) (hardware : Hardware) (done : ℕ) (m : Machine) (w : Whole
           → fetched m 1 (pipe map hardware done m (total m))
           ≡ storingAt (address m 2) (cond a [] (cond b (dword m 4 ∷ dword m 5 ∷ []) (hardware done .low ∷ hardware done .high ∷ [])))
       with-post-sync true b p q i = fetch-gives m 1 _ i ∙ rw p
-      with-post-sync false true p q i = fetch-gives m 1 _ (omega arith) ∙ rw (p, q) (address-gives m 2 _ (omega arith) ∙ words-give m 2 4 (storingAt (address m 2)) (omega arith))
+      with-post-sync false true p q i =
+          fetch-gives m 1 _ (omega arith)
+          ∙ rw (p, q) (address-gives m 2 _ (omega arith) ∙ words-give m 2 4 (storingAt (address m 2)) (omega arith))
       with-post-sync false false p q i = fetch-gives m 1 _ (omega arith) ∙ rw (p, q) (address-gives m 2 _ (omega arith))
 
       by : StoringRow (row m) → exec map hardware done m (dword m 0) (row m) (total m) ≡ storingAt (storesAt m) (toStore hardware done m)
-      by (inl e) = let i = rw e at (w .inside) in rw e (address-gives m 1 _ (omega arith) ∙ words-give m (total m - 3) 3 (storingAt (address m 1)) (omega arith))
+      by (inl e) =
+          let i = rw e at (w .inside) in
+          rw e (address-gives m 1 _ (omega arith) ∙ words-give m (total m - 3) 3 (storingAt (address m 1)) (omega arith))
       by (inr (inl e)) = let i = rw e at (w .inside) in rw e (fetch-gives m 1 _ (omega arith) ∙ address-gives m 2 _ (omega arith))
       by (inr (inr e)) = rw e (with-post-sync _ _ refl refl (rw e at (w .inside)))
 

@@ -12,7 +12,8 @@ use lib.ListN.{length, getD, getElem?, set, length-set}
 use lib.Dec.{eqb, leb, ltb}
 use borrow.Author.Tests.{leb-true, ltb-true, eqb-true}
 use Rattle.rules.proofs.Searching.{and-left, and-right}
-use Rattle.replay.specs.Streamer.{Map, Machine, Effect, wordAt, Place, batchWord, stateWord, scratchWord, outside, placed, placeOf, loadFrom, storeTo, noting, withMachine, storeWords}
+use Rattle.replay.specs.Streamer.{Map, Machine, Effect, wordAt, Place, batchWord, stateWord, scratchWord, outside, placed, placeOf}
+use Rattle.replay.specs.Streamer.{loadFrom, storeTo, noting, withMachine, storeWords}
 use Rattle.replay.specs.Uses.{addressesFrom, Has, addressOf}
 use Rattle.replay.proofs.Stores.{found, some-word}
 
@@ -56,6 +57,7 @@ module _ (at address : ℕ) (words : List ℕ) where
   word-found : (i : ℕ) → i < length words → address ≡ at + 4 * i → wordAt at words address ≡ none → ⊥
   word-found i h e n = some-not-none (sym (found at address words (omega arith) (omega arith) (omega arith)) ∙ n)
 
+-- windows that name no word leave it outside, and only they do
 placed-outside : (x y z : Option ℕ) → placed x y z ≡ outside → (x ≡ none) × (y ≡ none) × (z ≡ none)
 placed-outside (some i) y z e = absurd (let n : _≡_ {A = ℕ} 0 1 = cc in omega arith)
 placed-outside none (some i) z e = absurd (let n : _≡_ {A = ℕ} 0 1 = cc in omega arith)
@@ -63,12 +65,22 @@ placed-outside none none (some i) e = absurd (let n : _≡_ {A = ℕ} 0 1 = cc i
 placed-outside none none none e = (refl, refl, refl)
 
 module _ (map : Map) (m : Machine) (a : ℕ) where
+  -- the word that it names in each window
+  abbrev of-batch : Option ℕ
+  of-batch = wordAt (map .batchAt) (m .batch) a
+
+  abbrev of-state : Option ℕ
+  of-state = wordAt (map .stateAt) (m .state) a
+
+  abbrev of-scratch : Option ℕ
+  of-scratch = wordAt (map .scratchAt) (m .scratch) a
+
   -- AN ADDRESS LIES OUTSIDE ALL WINDOWS, or at a word of the machine that has this address
   pub outside-or-has : (placeOf map m a ≡ outside) ⊎ (Has m (placeOf map m a) × (a ≡ addressOf map (placeOf map m a)))
   unfolding placeOf
-  outside-or-has = by (wordAt (map .batchAt) (m .batch) a) (wordAt (map .stateAt) (m .state) a) (wordAt (map .scratchAt) (m .scratch) a) refl refl refl
+  outside-or-has = by of-batch of-state of-scratch refl refl refl
     where
-      by : (x y z : Option ℕ) → wordAt (map .batchAt) (m .batch) a ≡ x → wordAt (map .stateAt) (m .state) a ≡ y → wordAt (map .scratchAt) (m .scratch) a ≡ z
+      by : (x y z : Option ℕ) → of-batch ≡ x → of-state ≡ y → of-scratch ≡ z
           → (placed x y z ≡ outside) ⊎ (Has m (placed x y z) × (a ≡ addressOf map (placed x y z)))
       by (some i) y z p q r = inr (word-is _ a (m .batch) p)
       by none (some i) z p q r = inr (word-is _ a (m .state) q)
@@ -78,10 +90,9 @@ module _ (map : Map) (m : Machine) (a : ℕ) where
   -- and where it lies outside, no word of the machine has it
   pub outside-has-none : placeOf map m a ≡ outside → (p : Place) → Has m p → a ≡ addressOf map p → ⊥
   unfolding placeOf
-  outside-has-none o = by (placed-outside (wordAt (map .batchAt) (m .batch) a) (wordAt (map .stateAt) (m .state) a) (wordAt (map .scratchAt) (m .scratch) a) o)
+  outside-has-none o = by (placed-outside of-batch of-state of-scratch o)
     where
-      by : (wordAt (map .batchAt) (m .batch) a ≡ none) × (wordAt (map .stateAt) (m .state) a ≡ none) × (wordAt (map .scratchAt) (m .scratch) a ≡ none)
-          → (p : Place) → Has m p → a ≡ addressOf map p → ⊥
+      by : (of-batch ≡ none) × (of-state ≡ none) × (of-scratch ≡ none) → (p : Place) → Has m p → a ≡ addressOf map p → ⊥
       by n (batchWord i) h l = word-found _ a (m .batch) i h l (n .0)
       by n (stateWord i) h l = word-found _ a (m .state) i h l (n .1)
       by n (scratchWord i) h l = word-found _ a (m .scratch) i h l (n .2)
@@ -138,11 +149,14 @@ elsewhere m w (scratchWord i) outside k = refl
 
 pub word-changed : (m : Machine) (w : ℕ) (p : Place) → Has m p → (n : Machine) × (storeTo m w p ≡ some n) × WordChanged m w p n
 word-changed m w (batchWord i) h =
-    (_, refl, record { here = word-set (m .batch) i w h; elsewhere = elsewhere m w (batchWord i); at = refl; second = refl; kept = refl; registers = refl })
+    let c = elsewhere m w (batchWord i) in
+    (_, refl, record { here = word-set (m .batch) i w h; elsewhere = c; at = refl; second = refl; kept = refl; registers = refl })
 word-changed m w (stateWord i) h =
-    (_, refl, record { here = word-set (m .state) i w h; elsewhere = elsewhere m w (stateWord i); at = refl; second = refl; kept = refl; registers = refl })
+    let c = elsewhere m w (stateWord i) in
+    (_, refl, record { here = word-set (m .state) i w h; elsewhere = c; at = refl; second = refl; kept = refl; registers = refl })
 word-changed m w (scratchWord i) h =
-    (_, refl, record { here = word-set (m .scratch) i w h; elsewhere = elsewhere m w (scratchWord i); at = refl; second = refl; kept = refl; registers = refl })
+    let c = elsewhere m w (scratchWord i) in
+    (_, refl, record { here = word-set (m .scratch) i w h; elsewhere = c; at = refl; second = refl; kept = refl; registers = refl })
 word-changed m w outside h = absurd h
 
 -- a store leaves each window as long as it was, so that an address keeps its place
@@ -179,18 +193,21 @@ module _ (map : Map) (m : Machine) where
   first-place : (a : ℕ) → placeOf map m (a + 4 * 0) ≡ placeOf map m a
   first-place a = ap (placeOf map m) (omega arith)
 
-  later-place : (w a i : ℕ) {n : Machine} → storeTo m w (placeOf map m a) ≡ some n → placeOf map m (a + 4 * suc i) ≡ placeOf map n (a + 4 + 4 * i)
+  later-place : (w a i : ℕ) {n : Machine} → storeTo m w (placeOf map m a) ≡ some n
+      → placeOf map m (a + 4 * suc i) ≡ placeOf map n (a + 4 + 4 * i)
   later-place w a i e = ap (placeOf map m) (omega arith) ∙ sym (same-place map m w (placeOf map m a) e (a + 4 + 4 * i))
 
   -- a word stored, and the others behind it
-  one-more : (w : ℕ) (ws : List ℕ) (a : ℕ) {n : Machine} {e : Effect} → ((i : ℕ) → i < suc (length ws) → placeOf map m (a + 4 * i) ≡ outside → ⊥)
+  one-more : (w : ℕ) (ws : List ℕ) (a : ℕ) {n : Machine} {e : Effect}
+      → ((i : ℕ) → i < suc (length ws) → placeOf map m (a + 4 * i) ≡ outside → ⊥)
       → storeTo m w (placeOf map m a) ≡ some n → WordChanged m w (placeOf map m a) n → WordsChanged map n (a + 4) ws e
       → WordsChanged map m a (w ∷ ws) (record { machine = e .machine; stored = a ∷ e .stored })
   unfolding addressesFrom
   one-more w ws a {n} {e} k q s r = record {
     stored = ap (λ l. a ∷ l) (r .stored);
     each = each;
-    elsewhere = λ p x. r .elsewhere p (λ i h z. x (suc i) (suc-le-suc h) (z ∙ sym (later-place w a i q))) ∙ s .elsewhere p (λ z. x 0 (omega arith) (z ∙ sym (first-place a)));
+    elsewhere = λ p x.
+        r .elsewhere p (λ i h z. x (suc i) (suc-le-suc h) (z ∙ sym (later-place w a i q))) ∙ s .elsewhere p (λ z. x 0 (omega arith) (z ∙ sym (first-place a)));
     second = r .second ∙ s .second;
     kept = r .kept ∙ s .kept;
     registers = r .registers ∙ s .registers;
@@ -217,14 +234,17 @@ words-changed map [] m a k = (
 words-changed map (w ∷ ws) m a k =
     let s = word-changed m w (placeOf map m a) (has-word map m a (λ o. k 0 (omega arith) (first-place map m a ∙ o))) in
     let r = words-changed map ws (s .0) (a + 4) (λ i h o. k (suc i) (suc-le-suc h) (later-place map m w a i (s .1) ∙ o)) in
-    (record { machine = r .0 .machine; stored = a ∷ r .0 .stored }, rw (s .1, r .1), r .2 ∙ s .2 .at, one-more map m w ws a k (s .1) (s .2) (r .3))
+    let e : Effect = record { machine = r .0 .machine; stored = a ∷ r .0 .stored } in
+    (e, rw (s .1, r .1), r .2 ∙ s .2 .at, one-more map m w ws a k (s .1) (s .2) (r .3))
 
 -- A WORD OF THEM THAT LIES OUTSIDE stops them all
-pub outside-stops : (map : Map) (ws : List ℕ) (m : Machine) (a i : ℕ) → i < length ws → placeOf map m (a + 4 * i) ≡ outside → storeWords map m a ws ≡ none
+pub outside-stops : (map : Map) (ws : List ℕ) (m : Machine) (a i : ℕ) → i < length ws → placeOf map m (a + 4 * i) ≡ outside
+    → storeWords map m a ws ≡ none
 unfolding storeWords
 outside-stops map [] m a i h o = absurd (not-suc-le-zero h)
 outside-stops map (w ∷ ws) m a zero h o = rw (sym (first-place map m a) ∙ o)
-outside-stops map (w ∷ ws) m a (suc i) h o = by (λ n. outside-stops map ws n (a + 4) i (le-of-suc-le-suc h)) (storeTo m w (placeOf map m a)) refl
+outside-stops map (w ∷ ws) m a (suc i) h o =
+    by (λ n. outside-stops map ws n (a + 4) i (le-of-suc-le-suc h)) (storeTo m w (placeOf map m a)) refl
   where
     by : ((n : Machine) → placeOf map n (a + 4 + 4 * i) ≡ outside → storeWords map n (a + 4) ws ≡ none)
         → (x : Option Machine) → storeTo m w (placeOf map m a) ≡ x → withMachine x (λ n. noting a (storeWords map n (a + 4) ws)) ≡ none
@@ -232,7 +252,8 @@ outside-stops map (w ∷ ws) m a (suc i) h o = by (λ n. outside-stops map ws n 
     by rest (some n) e = rw (rest n (sym (later-place map m w a i e) ∙ o))
 
 -- and nothing else does
-pub stopped-outside : (map : Map) (ws : List ℕ) (m : Machine) (a : ℕ) → storeWords map m a ws ≡ none → (i : ℕ) × (i < length ws) × (placeOf map m (a + 4 * i) ≡ outside)
+pub stopped-outside : (map : Map) (ws : List ℕ) (m : Machine) (a : ℕ) → storeWords map m a ws ≡ none
+    → (i : ℕ) × (i < length ws) × (placeOf map m (a + 4 * i) ≡ outside)
 unfolding storeWords
 stopped-outside map [] m a e = absurd (some-not-none e)
 stopped-outside map (w ∷ ws) m a e =
