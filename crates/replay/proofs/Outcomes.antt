@@ -58,9 +58,9 @@ quiet word = record { word = word; stored = [] }
 abbrev pub stored : ℕ → List ℕ → Ran
 stored word addresses = record { word = word; stored = addresses }
 
--- batch at 1000h, state at 2000h with two words, scratch at 3000h with four; each register holds its offset and one
+-- batch at 1000h, state at 700002000h with two words, scratch at 3000h with four; each register holds its offset and one
 abbrev there : Map
-there = record { batchAt = 0x1000; stateAt = 0x2000; scratchAt = 0x3000 }
+there = record { batchAt = 0x1000; stateAt = 0x700002000; scratchAt = 0x3000 }
 
 abbrev hardware : Hardware
 hardware done = record { low = 0xAAAA0000 + done; high = 0xBBBB0000 + done }
