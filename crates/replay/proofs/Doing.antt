@@ -85,6 +85,7 @@ same-words n m (scratchWord i) = refl
 same-words n m outside = refl
 
 module _ (map : Map) (hardware : Hardware) (done : ℕ) (m : Machine) (w : Whole m) where
+  -- its step
   abbrev stepped : Step
   stepped = step map hardware done m
 
