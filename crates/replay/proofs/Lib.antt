@@ -3,4 +3,9 @@ pub mod Fetching
 pub mod Simulating
 pub mod Streaming
 pub mod Returning
+pub mod Words
+pub mod Steps
+pub mod Doing
+pub mod Failing
+pub mod Outcomes
 pub mod Examples

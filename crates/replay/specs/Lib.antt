@@ -1,3 +1,4 @@
 pub mod Streamer
 pub mod Runs
 pub mod Conduct
+pub mod Uses
