@@ -7,7 +7,7 @@ use mathlib.Core.Option.{Option, some, none}
 use lib.ListN.{length, getElem?, set}
 use lib.Dec.{eqb, leb, ltb}
 use Rattle.rules.specs.Words.{bit, field}
-use Rattle.rules.specs.Commands.{rowCount, rowOf, lengthOf}
+use Rattle.rules.specs.Commands.{endRow, startRow, setRegistersRow, storeRow, storeRegisterRow, loadRegisterRow, pipeRow, rowCount, rowOf, lengthOf}
 
 -- where the three windows lie: it is given only their addresses
 pub record Map : Type 0 where
@@ -181,20 +181,20 @@ pipe map hardware done m n flags =
 -- what a command does, by its row; n is its length, and `done` the number of commands before it
 unfoldable pub exec : Map → Hardware → ℕ → Machine → ℕ → ℕ → ℕ → Step
 exec map hardware done m header row n =
-    cond (eqb row 1) (endBatch m)
-    (cond (eqb row 2) (fetchedAddress m 1 (startBatch map m header (m .at + n)))
+    cond (eqb row endRow) (endBatch m)
+    (cond (eqb row startRow) (fetchedAddress m 1 (startBatch map m header (m .at + n)))
     -- "Row 3 sets registers"
-    (cond (eqb row 3) (fetchedWords m 1 (2 * ((n - 1) / 2)) (λ ws. advance n (withRegisters m (setPairs (m .registers) ws))))
+    (cond (eqb row setRegistersRow) (fetchedWords m 1 (2 * ((n - 1) / 2)) (λ ws. advance n (withRegisters m (setPairs (m .registers) ws))))
     -- "row 4 stores its data dwords"
-    (cond (eqb row 4) (fetchedAddress m 1 (λ address. fetchedWords m 3 (n - 3) (λ ws. stores n (storeWords map m address ws))))
+    (cond (eqb row storeRow) (fetchedAddress m 1 (λ address. fetchedWords m 3 (n - 3) (λ ws. stores n (storeWords map m address ws))))
     -- "row 5 stores a register"
-    (cond (eqb row 5) (fetched m 1 (λ offset. fetchedAddress m 2 (λ address. stores n (storeWords map m address (m .registers offset ∷ [])))))
+    (cond (eqb row storeRegisterRow) (fetched m 1 (λ offset. fetchedAddress m 2 (λ address. stores n (storeWords map m address (m .registers offset ∷ [])))))
     -- "row 6 loads one"
-    (cond (eqb row 6)
+    (cond (eqb row loadRegisterRow)
     (fetched m 1 (λ offset. fetchedAddress m 2 (λ address.
     withWord (loadFrom m (placeOf map m address)) (λ w. advance n (withRegisters m (update (m .registers) offset w))))))
     -- row 7
-    (cond (eqb row 7) (fetched m 1 (pipe map hardware done m n))
+    (cond (eqb row pipeRow) (fetched m 1 (pipe map hardware done m n))
     -- "Other rows only advance."
     (advance n m)))))))
 

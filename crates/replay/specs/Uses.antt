@@ -9,7 +9,7 @@ use mathlib.Core.Logic.{_⊎_}
 use lib.ListN.{length, getD}
 use lib.Dec.{eqb}
 use Rattle.rules.specs.Words.{field}
-use Rattle.rules.specs.Commands.{rowCount}
+use Rattle.rules.specs.Commands.{noopRow, endRow, startRow, storeRow, storeRegisterRow, loadRegisterRow, pipeRow, rowCount}
 use Rattle.replay.specs.Streamer.{Map, Machine, Hardware, Place, batchWord, stateWord, scratchWord, outside, placeOf}
 use Rattle.replay.specs.Runs.{commandAt}
 
@@ -44,11 +44,11 @@ pairs m = (total m - 1) / 2
 
 -- the rows that store: "row 4 stores its data dwords; row 5 stores a register; .. row 7 with post-sync stores 8 bytes"
 abbrev pub StoringRow : ℕ → Type 0
-StoringRow r = (r ≡ 4) ⊎ (r ≡ 5) ⊎ (r ≡ 7)
+StoringRow r = (r ≡ storeRow) ⊎ (r ≡ storeRegisterRow) ⊎ (r ≡ pipeRow)
 
 -- "Other rows only advance.": all but 1 to 7
 abbrev pub OtherRow : ℕ → Type 0
-OtherRow r = (r ≡ 0) ⊎ (7 < r)
+OtherRow r = (r ≡ noopRow) ⊎ (pipeRow < r)
 
 -- how many dwords behind its header the streamer uses, by row
 abbrev pub operandsByRow : Machine → List ℕ
@@ -89,7 +89,7 @@ toStore hardware done m = getD (storedByRow hardware done m) (row m) []
 
 -- where the first of them goes: the address of row 4 stands in its dwords 1 and 2, that of rows 5 and 7 in 2 and 3
 unfoldable pub storesAt : Machine → ℕ
-storesAt m = address m (cond (eqb (row m) 4) 1 2)
+storesAt m = address m (cond (eqb (row m) storeRow) 1 2)
 
 -- n words from an address on: the address of each
 unfoldable pub addressesFrom : ℕ → ℕ → List ℕ
@@ -122,8 +122,8 @@ pub data Failure (map : Map) (hardware : Hardware) (done : ℕ) (m : Machine) : 
   unknown-header : row m ≡ rowCount → Failure map hardware done m
   -- a word that it stores, or the word that row 6 loads, lies outside all windows
   store-outside : (i : ℕ) → i < length (toStore hardware done m) → placeOf map m (storesAt m + 4 * i) ≡ outside → Failure map hardware done m
-  load-outside : row m ≡ 6 → placeOf map m (address m 2) ≡ outside → Failure map hardware done m
+  load-outside : row m ≡ loadRegisterRow → placeOf map m (address m 2) ≡ outside → Failure map hardware done m
   -- a start's target is no dword from the batch's address on: it lies below, or is no whole dword
-  start-nowhere : row m ≡ 2 → ((i : ℕ) → address m 1 ≡ map .batchAt + 4 * i → ⊥) → Failure map hardware done m
+  start-nowhere : row m ≡ startRow → ((i : ℕ) → address m 1 ≡ map .batchAt + 4 * i → ⊥) → Failure map hardware done m
   -- "at level 1 it goes to the kept position", and there is none
-  nothing-kept : row m ≡ 1 → m .second ≡ true → m .kept ≡ none → Failure map hardware done m
+  nothing-kept : row m ≡ endRow → m .second ≡ true → m .kept ≡ none → Failure map hardware done m
