@@ -5,7 +5,10 @@
  * Each call returns whatever comes in, allocates nothing and keeps nothing between calls.
  *
  * The caller promises what no checker can test: each pointer is valid for the length given with it, and not null even
- * where that is 0; memory that is lent to be written overlaps nothing else that is lent to the same call.
+ * where that is 0; memory that is lent to be written overlaps nothing else that is lent to the same call. And it leaves the
+ * floating-point exceptions masked, as they are when a program starts: an unmasked one may trap on the numbers of a capture.
+ * All other floating-point modes are the caller's: how it rounds, or that it makes zeros of denormals, changes no answer, and
+ * a call leaves the modes as they were.
  */
 #ifndef LUNGEVATI_H
 #define LUNGEVATI_H

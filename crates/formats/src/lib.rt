@@ -3,13 +3,10 @@ ghost use mathlib.Core.Path.{_≡_};
 ghost use mathlib.Core.Bool.{not};
 ghost use lib.Dec.{eqb};
 ghost use lib.ListN.{getD};
-ghost use Rattle.rules.specs.Formats.{formatBits, between, knownTopology, knownRegister};
+ghost use Rattle.rules.specs.Formats.{between, knownTopology, knownRegister};
 
-mod table;
-
-pub use table::SURFACE_FORMATS;
-
-// The table's entry for a code; 0 past its end. The table is lent, since naming the constant here would copy it for each code.
+// The entry of the table of surface formats for a code; 0 past its end. The table is lent: a constant that is named here would be
+// copied for each code.
 pub fn format_bits(table: &[u16; 512], code: usize) -> u16
     ensures { λ r. ⌜ r ≡ getD (now (table .entry)) code 0 ⌝ }
 {
@@ -27,14 +24,6 @@ pub fn known_format(table: &[u16; 512], code: usize) -> bool
     ensures { λ r. ⌜ r ≡ not (eqb (getD (now (table .entry)) code 0) 0) ⌝ }
 {
     format_bits(table, code) != 0
-}
-
-// The one place that knows which table is lent.
-pub fn surface_format(code: usize) -> u16
-    ensures { λ r. ⌜ r ≡ formatBits code ⌝ }
-{
-    let table = SURFACE_FORMATS;
-    format_bits(&table, code)
 }
 
 // Low to high, both included.

@@ -37,12 +37,20 @@ blocks-tested : each (λ code. blockRule code (formatBits code)) 512 ≡ true
 unfolding each surfaceFormats formatBits
 blocks-tested = refl
 
+pub block-rule : (code : ℕ) → code < 512 → blockRule code (formatBits code) ≡ true
+block-rule = at-each (λ code. blockRule code (formatBits code)) 512 blocks-tested
+
+-- so it holds of any table that is this one: of the code's, which `walk::run` shows to be so by computation
+pub block-rule-of : (table : List ℕ) → table ≡ surfaceFormats → (code : ℕ) → code < 512 → blockRule code (getD table code 0) ≡ true
+unfolding formatBits
+block-rule-of table e code h = rw e (block-rule code h)
+
 pub format-at-most : (code : ℕ) → code < 512 → formatBits code ≤ 256
-format-at-most code h = leb-true _ _ (and-left (leb (formatBits code) 256) _ (at-each (λ k. blockRule k (formatBits k)) 512 blocks-tested code h))
+format-at-most code h = leb-true _ _ (and-left (leb (formatBits code) 256) _ (block-rule code h))
 
 pub format-blocks : (code : ℕ) → code < 0x0C0 → formatBits code ≡ blockBits code
 format-blocks code h =
-    let r = and-right (leb (formatBits code) 256) _ (at-each (λ k. blockRule k (formatBits k)) 512 blocks-tested code (omega arith)) in
+    let r = and-right (leb (formatBits code) 256) _ (block-rule code (omega arith)) in
     eqb-true _ _ (ap (λ t. cond t (eqb (formatBits code) (blockBits code)) true) (sym (lt-ltb code 0x0C0 h)) ∙ r)
 
 -- each row's key is found as that row, so no key stands twice

@@ -1,3 +1,4 @@
+pub mod Ordering
 pub mod BitRules
 pub mod ValueRules
 pub mod Judging

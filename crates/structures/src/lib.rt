@@ -1,13 +1,14 @@
 // Reading a state structure: a depth range, a colour state, or why there is none.
 ghost use mathlib.Core.Path.{_≡_};
-ghost use mathlib.Core.Bool.{false};
+ghost use mathlib.Core.Bool.{false, cond};
 ghost use mathlib.Core.List.{[], _∷_};
-ghost use Prim.Native.Nat.{_+_, _^_, _<_};
+ghost use Prim.Native.Nat.{_+_, _-_, _^_, _<_};
+ghost use lib.Dec.{leb};
 ghost use lib.ListN.{getD};
 ghost use Rattle.rules.specs.declared.Found.the-variants.{Nothing};
 ghost use Rattle.rules.specs.Words.{firstOf};
 ghost use Rattle.rules.specs.Refusals.{fault, firstFault};
-ghost use Rattle.rules.specs.Structures.{layoutOf, structureBitWrong, structureValueWrong, depthWrong, colourWrong, single, isNan};
+ghost use Rattle.rules.specs.Structures.{layoutOf, structureBitWrong, structureValueWrong, depthWrong, colourWrong, single, isNan, atMost};
 ghost use Rattle.rules.specs.Structures.{nowhere, heldWindow, heldFrom, structureChecks, valuesOf, StructureRead};
 use rules::Fault;
 use rules::Found;
@@ -16,6 +17,9 @@ use rules::Kind;
 use rules::Reading;
 use rules::Reason;
 use rules::Verdict;
+
+// The sign of a value, the highest of its bits.
+const SIGN: u32 = 0x8000_0000;
 
 // The bits that the first dword of a colour state allows. Every other dword of a structure is free.
 const COLOUR_BITS: u32 = 0xFFFF_8001;
@@ -67,7 +71,29 @@ fn first_bit(kind: Kind, d: &[u32]) -> Found
     }
 }
 
-// The first of two depths that is a NaN; else the maximum, if it is below the minimum.
+// The place of a value among all that are no NaN, by its bits: both zeros have the middle one, and a magnitude counts up from
+// there, or down if it has a sign.
+fn rank(bits: u32) -> u32
+    ensures { λ r. ⌜ r ≡ cond (leb (2 ^ 31) bits) (2 ^ 32 - bits) (2 ^ 31 + bits) ⌝ }
+{
+    if bits < SIGN {
+        SIGN + bits
+    } else {
+        SIGN - (bits - SIGN)
+    }
+}
+
+// Whether one value is at most another, by their bits alone.
+fn at_most_by_bits(minimum: u32, maximum: u32) -> bool
+    requires { ⌜ isNan minimum ≡ false ⌝ }
+    requires { ⌜ isNan maximum ≡ false ⌝ }
+    ensures { λ r. ⌜ r ≡ atMost minimum maximum ⌝ }
+{
+    rank(minimum) <= rank(maximum)
+}
+
+// The first of two depths that is a NaN; else the maximum, if it is below the minimum. They are compared twice: a processor
+// that was told to take denormals for zeros finds more floats in order than there are, and the bits are the same in any mode.
 fn first_depth(minimum: u32, maximum: u32) -> Found
     ensures { λ r. ⌜ r ≡ firstOf (depthWrong (minimum ∷ maximum ∷ [])) 2 ⌝ }
 {
@@ -79,7 +105,7 @@ fn first_depth(minimum: u32, maximum: u32) -> Found
     }
     let low = f32::from_bits(minimum);
     let high = f32::from_bits(maximum);
-    if low <= high {
+    if (low <= high) & at_most_by_bits(minimum, maximum) {
         Found::Nothing
     } else {
         Found::At(1)

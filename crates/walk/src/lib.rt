@@ -28,9 +28,11 @@ use rules::Window;
 use rules::Windows;
 use rules::faults::in_batch;
 use step::step;
+use table::SURFACE_FORMATS;
 
 pub mod answers;
 mod records;
+mod table;
 
 // How many commands a run may have.
 const BUDGET: usize = 65536;
@@ -46,7 +48,7 @@ fn run<'a>(
     requires { ⌜ (Fitted w (now batch) (now state)) × (length (now batch) ≤ windowLimit) × (length (now state) ≤ windowLimit) × (SmallBase base) ⌝ }
     ensures { λ r. ⌜ Ran base (captured w (now (batch .entry)) (now (state .entry))) (now (records .entry)) r (now (records .exit)) ⌝ }
 {
-    let formats = formats::SURFACE_FORMATS;
+    let formats = SURFACE_FORMATS;
     let room = room_in(records.len());
     let mut n: usize = 0;
     let mut s = started(base);

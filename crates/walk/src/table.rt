@@ -1,5 +1,5 @@
 // How many bits an element has, for each code of a surface format; 0 for a code that no element can have.
-// Every sixteenth has its code behind it.
+// Every sixteenth has its code behind it. The table stands where it is lent from, which is where it is shown to be the definitions'.
 pub const SURFACE_FORMATS: [u16; 512] = [
     128, // 000h
     128,
