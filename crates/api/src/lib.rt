@@ -1,7 +1,7 @@
 // The calls for programs in C: thin exports over the proved library. include/lungevati.h declares them.
 ghost use mathlib.Core.Path.{_≡_};
 ghost use Rattle.rules.specs.Records.{startingBase, Checked};
-ghost use Rattle.walk.specs.Lent.{captureOf};
+ghost use Rattle.walk.specs.Lent.{lentCapture};
 ghost use Rattle.api.specs.Read.{Small, flatOf, ReadOut};
 use rules::Answer;
 use rules::Opened;
@@ -18,7 +18,7 @@ pub extern "C" fn lungevati_check<'a>(
     scratch_len: u32,
     records: &mut [u32],
 ) -> Answer
-    ensures { λ r. ⌜ Checked startingBase (captureOf (now (batch .entry)) «batch_at» (now (state .entry)) «state_at» «scratch_at» «scratch_len») (now (records .entry)) r (now (records .exit)) ⌝ }
+    ensures { λ r. ⌜ Checked startingBase (lentCapture (now (batch .entry)) «batch_at» (now (state .entry)) «state_at» «scratch_at» «scratch_len») (now (records .entry)) r (now (records .exit)) ⌝ }
 {
     walk::check(
         batch,

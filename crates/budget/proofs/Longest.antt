@@ -21,11 +21,11 @@ use Rattle.rules.specs.declared.Outcome.{Outcome}
 use Rattle.rules.specs.declared.Outcome.the-variants.{Taken, Refused}
 use Rattle.rules.specs.declared.Reason.the-variants.{BudgetSpent}
 use Rattle.rules.specs.declared.Verdict.the-variants.{Pass, Fails}
-use Rattle.rules.specs.Refusals.{inBatch, fault, numberOf, answerWith}
+use Rattle.rules.specs.Refusals.{batchWindow, fault, numberOf, answerWith}
 use Rattle.rules.specs.Windows.{Capture, lengthsOf, windowFault}
 use Rattle.rules.specs.Step.{budget, cursor, stepOf}
 use Rattle.rules.specs.Walk.{Run, ended, then, trace, traceFrom, cut, start, walk, Leads, stays, onward, commandsOf, endOf, answerOf}
-use Rattle.rules.specs.Cases.{captureOf}
+use Rattle.rules.specs.Cases.{caseCapture}
 use Rattle.rules.specs.Book.{book}
 use Rattle.rules.proofs.Searching.{and-left, and-right, never-both}
 use Rattle.rules.proofs.Tables.{each, at-each}
@@ -43,7 +43,7 @@ calls (suc n) more = 0x18C00101 ∷ 0x00100BF8 ∷ 0 ∷ calls n more
 
 -- 255 calls, the end, 255 MI_NOOPs and their end
 pub longest : Capture
-longest = captureOf (calls 255 (0x05000000 ∷ noops 255 (0x05000000 ∷ [])))
+longest = caseCapture (calls 255 (0x05000000 ∷ noops 255 (0x05000000 ∷ [])))
 
 -- the commands run from a cursor on, n at most, and where they lead: a run that antt computes
 record Ran (c : Capture) (s : Cursor) : Type 0 where

@@ -12,18 +12,18 @@ use Rattle.rules.specs.declared.Command.{Command}
 use Rattle.rules.specs.declared.After.the-variants.{To}
 use Rattle.rules.specs.declared.Outcome.the-variants.{Taken}
 use Rattle.rules.specs.declared.Verdict.the-variants.{Pass, Fails}
-use Rattle.rules.specs.Refusals.{inBatch, fault, numberOf, answerWith}
+use Rattle.rules.specs.Refusals.{batchWindow, fault, numberOf, answerWith}
 use Rattle.rules.specs.Windows.{Capture, lengthsOf, windowFault}
 use Rattle.rules.specs.Step.{budget, stepOf}
 use Rattle.rules.specs.Walk.{Run, ended, trace, traceFrom, cut, start, walk, Leads, stays, onward, commandsOf, endOf, answerOf}
 use Rattle.rules.specs.Records.{recordOf, wordsOf, writtenOf}
-use Rattle.rules.specs.Cases.{captureOf}
+use Rattle.rules.specs.Cases.{caseCapture}
 use Rattle.rules.specs.Book.{book}
 use Rattle.rules.proofs.Walking.{walk-sound}
 use Rattle.rules.proofs.Running.{follow, trace-follows, cut-follows, commands-follow, end-follows}
 
 abbrev looping : Capture
-looping = captureOf (0x18800101 ∷ 0x00100000 ∷ 0 ∷ [])
+looping = caseCapture (0x18800101 ∷ 0x00100000 ∷ 0 ∷ [])
 
 abbrev jump : Command
 jump = record { index = 0; level = 0; row = 2; length = 3 }
@@ -60,20 +60,20 @@ unfolding turnWords
 words-counted n = length-replicate n 0x02030000
 
 -- a run with a budget of n and room for more
-spends : (n more : ℕ) → cut (n + more) (traceFrom n looping (start Unset)) ≡ follow (turns n) (ended (Fails (fault BudgetSpent inBatch 0)))
+spends : (n more : ℕ) → cut (n + more) (traceFrom n looping (start Unset)) ≡ follow (turns n) (ended (Fails (fault BudgetSpent batchWindow 0)))
 unfolding trace cut
 spends n more =
     ap (λ (m : ℕ). cut (n + more) (traceFrom m looping (start Unset))) (sym (add-zero n))
     ∙ ap (λ (m : ℕ). cut (n + more) (traceFrom (m + 0) looping (start Unset))) (sym (counted n))
     ∙ ap (cut (n + more)) (trace-follows looping 0 (leads n))
-    ∙ ap (λ (m : ℕ). cut (m + more) (follow (turns n) (ended (Fails (fault BudgetSpent inBatch 0))))) (sym (counted n))
+    ∙ ap (λ (m : ℕ). cut (m + more) (follow (turns n) (ended (Fails (fault BudgetSpent batchWindow 0))))) (sym (counted n))
     ∙ cut-follows (turns n) more _
 
 sound : windowFault (lengthsOf looping) ≡ Pass
 unfolding book
 sound = refl
 
-whole : (more : ℕ) → walk Unset looping (budget + more) ≡ follow (turns budget) (ended (Fails (fault BudgetSpent inBatch 0)))
+whole : (more : ℕ) → walk Unset looping (budget + more) ≡ follow (turns budget) (ended (Fails (fault BudgetSpent batchWindow 0)))
 whole more = walk-sound Unset looping (budget + more) sound ∙ spends budget more
 
 -- NUMBER 5: at the next position, 0, after 65,536 commands

@@ -13,8 +13,8 @@ use Rattle.rules.specs.declared.Reason.{Reason}
 use Rattle.rules.specs.Refusals.{told}
 use Rattle.rules.specs.Walk.{answerOf, commandsOf, endOf}
 use Rattle.rules.specs.Records.{Checked, wordsOf, writtenOf}
-use Rattle.rules.specs.File.{trailerOf, captureOf, openedVerdict, openedTold, fileRun, FileRead, Judged}
-use Rattle.walk.specs.Lent as lent
+use Rattle.rules.specs.File.{trailerOf, fileCapture, openedVerdict, openedTold, fileRun, FileRead, Judged}
+use Rattle.walk.specs.Lent.{lentCapture}
 use Rattle.capture.proofs.Reading.{held, parts}
 
 module _ {file batch state newBatch newState : List ℕ} where
@@ -34,9 +34,9 @@ module _ {file batch state newBatch newState : List ℕ} where
 
   -- the words that were checked are the capture that the file holds
   same-capture : {contents : Contents} → FileRead file batch state (Holds contents) newBatch newState
-      → lent.captureOf (take (contents .batch .count) newBatch) (contents .batch .at) (take (contents .state .count) newState) (contents .state .at)
-      (contents .scratch .at) (contents .scratch .bytes) ≡ captureOf file
-  unfolding captureOf
+      → lentCapture (take (contents .batch .count) newBatch) (contents .batch .at) (take (contents .state .count) newState) (contents .state .at)
+      (contents .scratch .at) (contents .scratch .bytes) ≡ fileCapture file
+  unfolding fileCapture
   same-capture f =
       let p = parts f in
       let h = held file (length batch) (length state) (sym (f .answers)) in
@@ -44,7 +44,7 @@ module _ {file batch state newBatch newState : List ℕ} where
 
   pub read-and-checked : {base : Base} {records newRecords : List ℕ} {contents : Contents} {answer : Answer} {scratch : ℕ}
       → FileRead file batch state (Holds contents) newBatch newState → scratch ≡ trailerOf file .scratchBytes
-      → Checked base (lent.captureOf (take (contents .batch .count) newBatch) (contents .batch .at) (take (contents .state .count) newState) (contents .state .at)
+      → Checked base (lentCapture (take (contents .batch .count) newBatch) (contents .batch .at) (take (contents .state .count) newState) (contents .state .at)
       (contents .scratch .at) scratch) records answer newRecords → Judged base file batch state records answer newBatch newState newRecords
   unfolding fileRun openedVerdict
   read-and-checked f e k =

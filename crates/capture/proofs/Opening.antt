@@ -15,7 +15,7 @@ use Rattle.rules.specs.declared.Reason.the-variants.{WrongCounts, FileSize, Fil
 use Rattle.rules.specs.declared.Fault.{Fault}
 use Rattle.rules.specs.declared.Verdict.{Verdict}
 use Rattle.rules.specs.declared.Verdict.the-variants.{Pass, Fails}
-use Rattle.rules.specs.Refusals.{inBatch, fault, tried, firstFault}
+use Rattle.rules.specs.Refusals.{batchWindow, fault, tried, firstFault}
 use Rattle.rules.specs.File.{offer, Offer, trailerOf, contentsOf, fileChecks, distanceWrong, fileCountsWrong, bufferShort, openedBy, openedOf}
 use Rattle.rules.proofs.Trying.{no-fault, stays-failed}
 use Rattle.capture.specs.Offers.{alone}
@@ -37,7 +37,7 @@ size-right : (n : ℕ) → 40 ≤ n → n ≤ 32808 → (ltb n 40 || ltb 32808 n
 size-right n least most = simp (le-ltb _ _ least, le-ltb _ _ most)
 
 module _ (file : List ℕ) (b s : ℕ) where
-  refused : {reason : Reason} → firstFault fileChecks (offer file b s) ≡ Fails (fault reason inBatch 0) → NotRead reason ≡ openedOf file b s
+  refused : {reason : Reason} → firstFault fileChecks (offer file b s) ≡ Fails (fault reason batchWindow 0) → NotRead reason ≡ openedOf file b s
   unfolding openedOf
   refused e = sym (ap (λ (v : Verdict). openedBy v (trailerOf file)) e)
 

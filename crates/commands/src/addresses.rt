@@ -6,7 +6,7 @@ ghost use lib.ListN.{length, getD};
 ghost use Rattle.rules.specs.Uses.{startUse, storeUse, storeRegisterUse, loadRegisterUse, pipeUse, vertexBufferUse, indexBufferUse, accessOf, sized};
 use crate::dwords::dword;
 use rules::Access;
-use rules::Allowed;
+use rules::Within;
 use rules::names::BASE_ROW;
 use rules::names::COLOUR_ROW;
 use rules::names::END_ROW;
@@ -29,7 +29,7 @@ fn start_use(j: usize) -> Access
     ensures { λ r. ⌜ r ≡ startUse [] 0 j 0 ⌝ }
 {
     if j == 1 {
-        Access::Reaches(4, Allowed::BatchOnly)
+        Access::Reaches(4, Within::BatchOnly)
     } else {
         Access::Unused
     }
@@ -42,9 +42,9 @@ pub fn store_use(command: &[u32], j: usize) -> Access
         return Access::Unused;
     }
     if dword(command, 0) / 0x20_0000 % 2 == 1 {
-        Access::Reaches(8, Allowed::ScratchOnly)
+        Access::Reaches(8, Within::ScratchOnly)
     } else {
-        Access::Reaches(4, Allowed::ScratchOnly)
+        Access::Reaches(4, Within::ScratchOnly)
     }
 }
 
@@ -52,7 +52,7 @@ fn store_register_use(j: usize) -> Access
     ensures { λ r. ⌜ r ≡ storeRegisterUse [] 0 j 0 ⌝ }
 {
     if j == 2 {
-        Access::Reaches(4, Allowed::ScratchOnly)
+        Access::Reaches(4, Within::ScratchOnly)
     } else {
         Access::Unused
     }
@@ -62,7 +62,7 @@ fn load_register_use(j: usize) -> Access
     ensures { λ r. ⌜ r ≡ loadRegisterUse [] 0 j 0 ⌝ }
 {
     if j == 2 {
-        Access::Reaches(4, Allowed::AnyWindow)
+        Access::Reaches(4, Within::AnyWindow)
     } else {
         Access::Unused
     }
@@ -77,7 +77,7 @@ pub fn pipe_use(command: &[u32], j: usize) -> Access
     if dword(command, 1) / 0x4000 % 4 == 0 {
         return Access::Unused;
     }
-    Access::Reaches(8, Allowed::ScratchOnly)
+    Access::Reaches(8, Within::ScratchOnly)
 }
 
 // A range of so many bytes, if there are any.
@@ -87,7 +87,7 @@ fn sized_use(size: u32) -> Access
     if size == 0 {
         Access::Unused
     } else {
-        Access::Reaches(size as u64, Allowed::AnyWindow)
+        Access::Reaches(size as u64, Within::AnyWindow)
     }
 }
 

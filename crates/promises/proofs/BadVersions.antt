@@ -15,7 +15,7 @@ use Rattle.rules.specs.Step.{here, checks}
 use Rattle.rules.specs.Walk.{start, walk}
 use Rattle.rules.specs.Records.{roomOf, wordsFor}
 use Rattle.rules.specs.Book.{book}
-use Rattle.rules.specs.Cases.{captureOf, ample}
+use Rattle.rules.specs.Cases.{caseCapture, ample}
 use Rattle.rules.proofs.Unique.{count-is}
 use Rattle.rules.proofs.Walking.{accepted-passes}
 use Rattle.replay.specs.Streamer.{Hardware}
@@ -27,16 +27,16 @@ use Rattle.promises.specs.Versions.{Version, Meets, RefusesAll, AcceptsA
 use Rattle.promises.proofs.Demand2.{answer-decided, records-decided}
 
 abbrev c2 : Capture
-c2 = captureOf (0x05000000 ∷ [])
+c2 = caseCapture (0x05000000 ∷ [])
 
 abbrev c3 : Capture
-c3 = captureOf (0x00000000 ∷ [])
+c3 = caseCapture (0x00000000 ∷ [])
 
 abbrev c7 : Capture
-c7 = captureOf (0x18C00101 ∷ 0x00100010 ∷ 0 ∷ 0x05000000 ∷ 0x05000000 ∷ [])
+c7 = caseCapture (0x18C00101 ∷ 0x00100010 ∷ 0 ∷ 0x05000000 ∷ 0x05000000 ∷ [])
 
 abbrev c9 : Capture
-c9 = captureOf (0x00000000 ∷ 0x10000002 ∷ 0x00301000 ∷ 0 ∷ 0 ∷ 0x05000000 ∷ [])
+c9 = caseCapture (0x00000000 ∷ 0x10000002 ∷ 0x00301000 ∷ 0 ∷ 0 ∷ 0x05000000 ∷ [])
 
 -- what demand 2 makes of C3, C7 and C9
 c3-refused : {r : Answer} {new : List ℕ} → Demand2 Unset c3 ample r new → r .reason ≡ 6

@@ -10,10 +10,10 @@ use Rattle.rules.specs.declared.Base.{Base}
 use Rattle.rules.specs.declared.Fault.{Fault}
 use Rattle.rules.specs.declared.Verdict.{Verdict}
 use Rattle.rules.specs.declared.Verdict.the-variants.{Pass, Fails}
-use Rattle.rules.specs.Refusals.{AllPass, FirstFault, firstFault, inBatch, fault, answerWith, numberOf}
+use Rattle.rules.specs.Refusals.{AllPass, FirstFault, firstFault, batchWindow, fault, answerWith, numberOf}
 use Rattle.rules.specs.Walk.{answerOf, commandsOf, endOf}
 use Rattle.rules.specs.Records.{Checked, wordsOf, writtenOf}
-use Rattle.rules.specs.File.{offer, trailerOf, fileChecks, contentsOf, openedBy, openedOf, openedVerdict, filledBy, captureOf, fileRun, Judged}
+use Rattle.rules.specs.File.{offer, trailerOf, fileChecks, contentsOf, openedBy, openedOf, openedVerdict, filledBy, fileCapture, fileRun, Judged}
 use Rattle.rules.proofs.Trying.{fails-not-pass, all-pass, no-fault, first-is}
 use Rattle.rules.proofs.Unique.{zero-is-pass}
 use Rattle.promises.specs.Files.{Unread, Judgement, FileDemands}
@@ -27,7 +27,7 @@ module _ {base : Base} {file batch state records newBatch newState newRecords : 
   said = firstFault fileChecks (offer file (length batch) (length state))
 
   -- A FILE THAT IS READ IS CHECKED: the promise of `walk::check`, on the capture that the file holds
-  pub checked : AllPass fileChecks (offer file (length batch) (length state)) → Checked base (captureOf file) records r newRecords
+  pub checked : AllPass fileChecks (offer file (length batch) (length state)) → Checked base (fileCapture file) records r newRecords
   unfolding fileRun openedOf openedVerdict
   checked q =
       let e : said ≡ Pass = no-fault _ fileChecks q in
@@ -63,8 +63,8 @@ module _ {base : Base} {file batch state records newBatch newState newRecords : 
       by : (v : Verdict) → said ≡ v → AllPass fileChecks (offer file (length batch) (length state))
       by Pass e = all-pass _ fileChecks e
       by (Fails f) e =
-          let q : r ≡ answerWith (Fails (fault (f .reason) inBatch 0)) 0 = p .answers ∙ rw e in
-          absurd (fails-not-pass (zero-is-pass (Fails (fault (f .reason) inBatch 0)) 0 (sym (ap (λ (a : Answer). a .reason) q) ∙ z)))
+          let q : r ≡ answerWith (Fails (fault (f .reason) batchWindow 0)) 0 = p .answers ∙ rw e in
+          absurd (fails-not-pass (zero-is-pass (Fails (fault (f .reason) batchWindow 0)) 0 (sym (ap (λ (a : Answer). a .reason) q) ∙ z)))
 
   -- THE THREE DEMANDS FOR A FILE
   pub file-demands : FileDemands base file batch state records r newBatch newState newRecords

@@ -8,7 +8,7 @@ use Rattle.rules.specs.declared.Base.{Base}
 use Rattle.rules.specs.declared.Fault.{Fault}
 use Rattle.rules.specs.Refusals.{AllPass, FirstFault, numberOf}
 use Rattle.rules.specs.Records.{wordsFor}
-use Rattle.rules.specs.File.{offer, fileChecks, batchDwords, stateDwords, filled, captureOf}
+use Rattle.rules.specs.File.{offer, fileChecks, batchDwords, stateDwords, filled, fileCapture}
 use Rattle.promises.specs.Demand1.{Demand1}
 use Rattle.promises.specs.Demand2.{Demand2}
 use Rattle.promises.specs.Demand3.{Demand3}
@@ -24,9 +24,9 @@ pub record Unread (batch state records : List ℕ) (r : Answer) (newBatch newSta
 pub record Judgement (base : Base) (file batch state records : List ℕ) (r : Answer) (newBatch newState newRecords : List ℕ) : Type 0 where
   pub batchFilled : newBatch ≡ filled (batchDwords file) batch
   pub stateFilled : newState ≡ filled (stateDwords file) state
-  pub demand1 : Demand1 (captureOf file) records r newRecords
-  pub demand2 : Demand2 base (captureOf file) records r newRecords
-  pub demand3 : r .reason ≡ 0 → Demand3 (captureOf file) (r .count) (take (wordsFor (r .count)) newRecords)
+  pub demand1 : Demand1 (fileCapture file) records r newRecords
+  pub demand2 : Demand2 base (fileCapture file) records r newRecords
+  pub demand3 : r .reason ≡ 0 → Demand3 (fileCapture file) (r .count) (take (wordsFor (r .count)) newRecords)
 
 -- and each file is one or the other: the reader is offered the file and the rooms of the two word buffers
 pub record FileDemands (base : Base) (file batch state records : List ℕ) (r : Answer) (newBatch newState newRecords : List ℕ) : Type 0 where

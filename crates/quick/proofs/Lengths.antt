@@ -11,7 +11,7 @@ use lib.Dec.{eqb, leb, ltb}
 use borrow.Author.Tests.{eqb-true, ltb-true, leb-true, lt-ltb, le-ltb, le-leb, lt-leb}
 use Rattle.rules.specs.declared.Windows.{Windows}
 use Rattle.rules.specs.Words.{bit, field}
-use Rattle.rules.specs.Commands.{Length, dwordCount, one, exactly, byBit, groups, theRow, groupSize, lengthOf, lengthRight, rowCount}
+use Rattle.rules.specs.Commands.{Length, dwordCount, noField, exactly, byBit, groups, theRow, groupSize, lengthOf, lengthRight, rowCount}
 use Rattle.rules.proofs.Searching.{and-left, and-right}
 use Rattle.sift.specs.Clean.{cleanOf}
 use Rattle.quick.specs.Quick.{quickOf}
@@ -25,7 +25,7 @@ module _ (r : ℕ) {row : ℕ} (d : List ℕ) (q : row ≡ r) (right : lengthRig
   counted-here : length d ≡ lengthOf r (getD d 0 0)
   counted-here = rw q at counted
 
-  pub length-one : theRow r .total ≡ one → length d ≡ 1
+  pub length-one : theRow r .total ≡ noField → length d ≡ 1
   unfolding lengthOf
   length-one e = counted-here ∙ rw e
 
@@ -87,7 +87,7 @@ unfolding lengthOf
 some-length r header = counted (theRow r .total)
   where
     counted : (t : Length) → 0 < dwordCount t header
-    counted one = omega arith
+    counted noField = omega arith
     counted (exactly f) = omega arith
     counted (byBit b f g) = omega arith
     counted (groups n) = omega arith

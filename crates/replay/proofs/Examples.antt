@@ -4,7 +4,7 @@ use mathlib.Core.Path.{_≡_, refl}
 use mathlib.Core.Bool.{true}
 use mathlib.Core.List.{List, [], _∷_}
 use mathlib.Core.Option.{some, none}
-use Rattle.replay.proofs.Outcomes.{Ends, Fails, GoesOn, inBatch, inState, inScratch, register, Example, example, from, quiet, stored, failing}
+use Rattle.replay.proofs.Outcomes.{Ends, Fails, GoesOn, batchWindow, stateWindow, inScratch, register, Example, example, from, quiet, stored, failing}
 
 -- how it moves: ends, starts, and rows that only advance
 pub moving : List Example
@@ -42,18 +42,18 @@ storing =
     -- two data dwords in scratch, one in the state window; a register in the batch
     example 14 (0x10200003 ∷ 0x3008 ∷ 0 ∷ 77 ∷ 78 ∷ 0x05000000 ∷ []) Ends
     (stored 0x04050000 (0x3008 ∷ 0x300C ∷ []) ∷ quiet 0x01010005 ∷ []) (inScratch 2 77 ∷ inScratch 3 78 ∷ [])
-    ∷ example 15 (0x10000002 ∷ 0x2004 ∷ 7 ∷ 77 ∷ 0x05000000 ∷ []) Ends (stored 0x04040000 (0x700002004 ∷ []) ∷ quiet 0x01010004 ∷ []) (inState 1 77 ∷ [])
+    ∷ example 15 (0x10000002 ∷ 0x2004 ∷ 7 ∷ 77 ∷ 0x05000000 ∷ []) Ends (stored 0x04040000 (0x700002004 ∷ []) ∷ quiet 0x01010004 ∷ []) (stateWindow 1 77 ∷ [])
     ∷ example 16 (0x12000002 ∷ 0x2600 ∷ 0x1014 ∷ 0 ∷ 0x05000000 ∷ 0 ∷ []) Ends
-    (stored 0x05040000 (0x1014 ∷ []) ∷ quiet 0x01010004 ∷ []) (inBatch 5 0x2601 ∷ [])
+    (stored 0x05040000 (0x1014 ∷ []) ∷ quiet 0x01010004 ∷ []) (batchWindow 5 0x2601 ∷ [])
     -- a batch that overwrites its own next command, a word that is no header, by an end: the streamer runs what then stands there
     ∷ example 17 (0x10000002 ∷ 0x1010 ∷ 0 ∷ 0x05000000 ∷ 0x40000000 ∷ []) Ends
-    (stored 0x04040000 (0x1010 ∷ []) ∷ quiet 0x01010004 ∷ []) (inBatch 4 0x05000000 ∷ [])
+    (stored 0x04040000 (0x1010 ∷ []) ∷ quiet 0x01010004 ∷ []) (batchWindow 4 0x05000000 ∷ [])
     -- post-sync 0 stores nothing, 1 its own dwords, 2 and 3 what the hardware gives at that command
     ∷ example 18 (0x7A000004 ∷ 0 ∷ 0 ∷ 0 ∷ 0 ∷ 0 ∷ 0x05000000 ∷ []) Ends (quiet 0x07060000 ∷ quiet 0x01010006 ∷ []) []
     ∷ example 19 (0x7A000004 ∷ 0x4000 ∷ 0x3008 ∷ 0 ∷ 5 ∷ 6 ∷ 0x05000000 ∷ []) Ends
     (stored 0x07060000 (0x3008 ∷ 0x300C ∷ []) ∷ quiet 0x01010006 ∷ []) (inScratch 2 5 ∷ inScratch 3 6 ∷ [])
     ∷ example 20 (0x7A000004 ∷ 0x4000 ∷ 0x2000 ∷ 7 ∷ 5 ∷ 6 ∷ 0x05000000 ∷ []) Ends
-    (stored 0x07060000 (0x700002000 ∷ 0x700002004 ∷ []) ∷ quiet 0x01010006 ∷ []) (inState 0 5 ∷ inState 1 6 ∷ [])
+    (stored 0x07060000 (0x700002000 ∷ 0x700002004 ∷ []) ∷ quiet 0x01010006 ∷ []) (stateWindow 0 5 ∷ stateWindow 1 6 ∷ [])
     ∷ example 21 (0x7A000004 ∷ 0x8000 ∷ 0x3000 ∷ 0 ∷ 0 ∷ 0 ∷ 0x05000000 ∷ []) Ends
     (stored 0x07060000 (0x3000 ∷ 0x3004 ∷ []) ∷ quiet 0x01010006 ∷ []) (inScratch 0 0xAAAA0000 ∷ inScratch 1 0xBBBB0000 ∷ [])
     ∷ example 22 (0 ∷ 0x7A000004 ∷ 0xC000 ∷ 0x3000 ∷ 0 ∷ 0 ∷ 0 ∷ 0x05000000 ∷ []) Ends

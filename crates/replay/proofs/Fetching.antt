@@ -18,7 +18,7 @@ use Rattle.rules.specs.declared.Level.the-variants.{First, Second}
 use Rattle.rules.specs.declared.Cursor.{Cursor}
 use Rattle.rules.specs.Words.{allowed}
 use Rattle.rules.specs.Windows.{Capture}
-use Rattle.rules.specs.Commands.{Length, one, exactly, byBit, groups, theRow, dwordCount, lengthOf}
+use Rattle.rules.specs.Commands.{Length, noField, exactly, byBit, groups, theRow, dwordCount, lengthOf}
 use Rattle.rules.specs.Uses.{addressAt}
 use Rattle.rules.specs.Masks.{allowedAt, bitWrong}
 use Rattle.rules.specs.Step.{headerAt, rowAt, lengthAt, dwordsAt}
@@ -50,7 +50,7 @@ unfolding lengthOf
 some-long r header = by (theRow r .total)
   where
     by : (t : Length) → 0 < dwordCount t header
-    by one = omega arith
+    by noField = omega arith
     by (exactly f) = omega arith
     by (byBit b f g) = omega arith
     by (groups n) = omega arith

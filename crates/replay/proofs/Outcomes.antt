@@ -12,7 +12,7 @@ use Rattle.rules.specs.Records.{recordOf}
 use Rattle.rules.specs.Book.{book}
 use Rattle.replay.specs.Streamer.{Map, Machine, Step, goes, ends, fails, Hardware, step}
 use Rattle.replay.specs.Streamer.{fetched, fetchedWords, fetchedAddress, wordAt, placeOf, storeWords, setPairs, endBatch, startBatch, pipe, exec}
-use Rattle.replay.specs.Runs.{Moment, moment, commandAt, run, runOf}
+use Rattle.replay.specs.Runs.{Moment, moment, fetchedCommand, run, runOf}
 
 -- how a run comes out: it ends at the last of its commands, it fails at the one after them, or it goes on to that one
 pub data Fate : Type 0 where
@@ -27,8 +27,8 @@ pub record Ran : Type 0 where
 
 -- what a run has changed: a word of a window, by its number there, or a register, by its offset
 pub data Change : Type 0 where
-  inBatch : ℕ → ℕ → Change
-  inState : ℕ → ℕ → Change
+  batchWindow : ℕ → ℕ → Change
+  stateWindow : ℕ → ℕ → Change
   inScratch : ℕ → ℕ → Change
   register : ℕ → ℕ → Change
 
@@ -83,8 +83,8 @@ holding m batch state scratch registers =
 
 abbrev changed : List Change → Machine → Machine
 changed [] m = m
-changed (inBatch i w ∷ cs) m = changed cs (holding m (set (m .batch) i w) (m .state) (m .scratch) (m .registers))
-changed (inState i w ∷ cs) m = changed cs (holding m (m .batch) (set (m .state) i w) (m .scratch) (m .registers))
+changed (batchWindow i w ∷ cs) m = changed cs (holding m (set (m .batch) i w) (m .state) (m .scratch) (m .registers))
+changed (stateWindow i w ∷ cs) m = changed cs (holding m (m .batch) (set (m .state) i w) (m .scratch) (m .registers))
 changed (inScratch i w ∷ cs) m = changed cs (holding m (m .batch) (m .state) (set (m .scratch) i w) (m .registers))
 changed (register offset w ∷ cs) m = changed cs (holding m (m .batch) (m .state) (m .scratch) (λ x. cond (eqb x offset) w (m .registers x)))
 
@@ -167,6 +167,6 @@ right e =
 
 -- the numbers of the examples that do not come out as they should; it computes where all that is shut of the streamer is open
 unfoldable pub failing : List Example → List ℕ
-unfolding followed runNumbers book fetched fetchedWords fetchedAddress wordAt placeOf storeWords setPairs endBatch startBatch pipe exec step commandAt run
+unfolding followed runNumbers book fetched fetchedWords fetchedAddress wordAt placeOf storeWords setPairs endBatch startBatch pipe exec step fetchedCommand run
 failing [] = []
 failing (e ∷ es) = namedIf (right e) (e .number) (failing es)

@@ -22,7 +22,7 @@ use Rattle.rules.specs.Step.{headerAt, rowAt, lengthAt, dwordsAt, commandAt as 
 use Rattle.rules.proofs.Stepping.{took, passed}
 use Rattle.rules.proofs.Moving.{Way, ends, returns, jumps, calls, goes-on, taken-way, nextAt, same-cursor, ends-nowhere, first-keeps-none, same-kept, return-level}
 use Rattle.replay.specs.Streamer.{Machine, Effect}
-use Rattle.replay.specs.Runs.{Moment, moment, commandAt}
+use Rattle.replay.specs.Runs.{Moment, moment, fetchedCommand}
 use Rattle.replay.specs.Conduct.{Keeps, Kept, Returns}
 use Rattle.replay.proofs.Fetching.{isSecond, Agrees, header-is}
 
@@ -34,16 +34,16 @@ pub first-origin : (c : Capture) (past : List Moment) (s : Cursor) → s .level 
 first-origin c past s e = λ back q. absurd (first-keeps-none (sym e ∙ q))
 
 -- the streamer's command at a moment is the walk's
-module _ (c : Capture) (s : Cursor) (m : Machine) (g : Agrees c s m) (k : Command) (same : commandAt m ≡ k) (past : List Moment) (o : Origin c past s) where
+module _ (c : Capture) (s : Cursor) (m : Machine) (g : Agrees c s m) (k : Command) (same : fetchedCommand m ≡ k) (past : List Moment) (o : Origin c past s) where
   module _ {a : After} (e : stepOf c s ≡ Taken k a) where
-    told : commandAt m ≡ walkCommand (c .batch) s
+    told : fetchedCommand m ≡ walkCommand (c .batch) s
     told = same ∙ took c s e .command
 
-    row-is : commandAt m .row ≡ rowAt (c .batch) (s .at)
+    row-is : fetchedCommand m .row ≡ rowAt (c .batch) (s .at)
     unfolding walkCommand
     row-is = ap (λ (j : Command). j .row) told
 
-    header-bit : bit (getD (dwordsAt (c .batch) (s .at)) 0 0) 22 ≡ true → bit (getD (c .batch) (commandAt m .index) 0) 22 ≡ true
+    header-bit : bit (getD (dwordsAt (c .batch) (s .at)) 0 0) 22 ≡ true → bit (getD (c .batch) (fetchedCommand m .index) 0) 22 ≡ true
     unfolding walkCommand
     header-bit b =
         ap (λ (j : Command). bit (getD (c .batch) (j .index) 0) 22) told
@@ -69,14 +69,14 @@ module _ (c : Capture) (s : Cursor) (m : Machine) (g : Agrees c s m) (k : Comman
       by a q (goes-on r n) = λ back x. inr (o back (sym (level q) ∙ x))
 
   -- an end at level 1 goes where one of them says
-  pub returns-here : (effect : Effect) {t : Cursor} → stepOf c s ≡ Taken k (To t) → Agrees c t (effect .machine) → commandAt m .row ≡ endRow
+  pub returns-here : (effect : Effect) {t : Cursor} → stepOf c s ≡ Taken k (To t) → Agrees c t (effect .machine) → fetchedCommand m .row ≡ endRow
       → Returns (c .batch) past m (moment m effect)
   returns-here effect {t} e h r =
       let l = return-level c s t e (sym (row-is e) ∙ r) in
       record { back = t .at; kept = g .kept (t .at) (l .1); own = o (t .at) (l .1); goes = h .at; level = h .level ∙ ap isSecond (l .0) }
 
   -- and one that ends the run is at level 0
-  pub ends-first : stepOf c s ≡ Taken k Ends → commandAt m .level ≡ 1 → ⊥
+  pub ends-first : stepOf c s ≡ Taken k Ends → fetchedCommand m .level ≡ 1 → ⊥
   unfolding walkCommand
   ends-first e one = by Ends refl (taken-way c s e)
     where

@@ -19,8 +19,8 @@ use Rattle.rules.specs.declared.After.{After}
 use Rattle.rules.specs.declared.After.the-variants.{Ends, To}
 use Rattle.rules.specs.declared.Outcome.the-variants.{Taken}
 use Rattle.rules.specs.Words.{bit, field, inGroup}
-use Rattle.rules.specs.Windows.{Capture, windowsOf, Inside}
-use Rattle.rules.specs.Commands.{Length, one, exactly, byBit, groups, rows, rowCount, theRow, rowOf, lengthOf, groupSize, lengthRight}
+use Rattle.rules.specs.Windows.{Capture, windowsOf, Inside, listed}
+use Rattle.rules.specs.Commands.{Length, noField, exactly, byBit, groups, rows, rowCount, theRow, rowOf, lengthOf, groupSize, lengthRight}
 use Rattle.rules.specs.Uses.{postSync, addressAt}
 use Rattle.rules.specs.Masks.{allowedOf, masksOf, allowedAt}
 use Rattle.rules.specs.Addresses.{rangeWrong}
@@ -31,7 +31,7 @@ use Rattle.rules.proofs.Ranges.{Sound}
 use Rattle.rules.proofs.Storing.{Stores, row-four, row-five, row-seven, stores-in-scratch, access-fits, load-register-reaches}
 use Rattle.rules.proofs.Moving.{Way, ends, returns, jumps, calls, goes-on, taken-way, target-inside, targetAt, first-keeps-none, same-kept}
 use Rattle.replay.specs.Streamer.{Map, Machine, machine, Effect, Step, goes, fails, Hardware, withWord, fetched, fetchedWords, fetchedAddress, placeOf, loadFrom, storeWords, onward, advance, stores, update, withRegisters, setPairs, returning, endBatch, goingTo, startBatch, pipe, exec, step}
-use Rattle.replay.specs.Runs.{levelOf, commandAt}
+use Rattle.replay.specs.Runs.{levelOf, fetchedCommand}
 use Rattle.replay.specs.Conduct.{mapOf, AllInScratch}
 use Rattle.replay.proofs.Stores.{Windowed, Stored, stored-words, loaded-word}
 use Rattle.replay.proofs.Fetching.{isSecond, Agrees, some-long, own-dword, counted, fetches, fetches-address, fetches-words, header-is, aligned}
@@ -51,7 +51,7 @@ pub record Simulated (c : Capture) (hardware : Hardware) (done : ℕ) (m : Machi
   pub steps : step (mapOf c) hardware done m ≡ stepWith a effect
   pub led : Led c a (effect .machine)
   pub inside : AllInScratch c (effect .stored)
-  pub command : commandAt m ≡ k
+  pub command : fetchedCommand m ≡ k
 
 -- what the length rule says of a command's length
 exact-length : (r header : ℕ) {f : ℕ} → theRow r .total ≡ exactly f → lengthRight r header ≡ true → lengthOf r header ≡ f + 2
@@ -106,7 +106,7 @@ module _ (w : Map) (hardware : Hardware) (done : ℕ) (m : Machine) (header r n 
   unfolding exec
   exec-other a b c d e f g = rw (ne-eqb r 1 a, ne-eqb r 2 b, ne-eqb r 3 c, ne-eqb r 4 d, ne-eqb r 5 e, ne-eqb r 6 f, ne-eqb r 7 g)
 
-module _ (c : Capture) (sound : Sound (windowsOf c)) (hardware : Hardware) (done : ℕ) (s : Cursor) (m : Machine) (p : Passed c s) (g : Agrees c s m) where
+module _ (c : Capture) (sound : Sound (listed (windowsOf c))) (hardware : Hardware) (done : ℕ) (s : Cursor) (m : Machine) (p : Passed c s) (g : Agrees c s m) where
   abbrev row : ℕ
   row = rowAt (c .batch) (s .at)
 
@@ -131,8 +131,8 @@ module _ (c : Capture) (sound : Sound (windowsOf c)) (hardware : Hardware) (done
       ∙ rw (header-is c s m p g, ne-eqb row rowCount (λ e. omega arith))
 
   -- the command that it runs
-  same-command : commandAt m ≡ walkCommand (c .batch) s
-  unfolding commandAt walkCommand
+  same-command : fetchedCommand m ≡ walkCommand (c .batch) s
+  unfolding fetchedCommand walkCommand
   same-command = rw (g .windowed .batch, g .at, same-level (s .level) (g .level))
 
   -- a command that goes on by its length
@@ -303,7 +303,7 @@ module _ (c : Capture) (sound : Sound (windowsOf c)) (hardware : Hardware) (done
   moved (goes-on r q) = others _ r q
 
 -- THE STEP
-pub simulated : (c : Capture) → Sound (windowsOf c) → (hardware : Hardware) (done : ℕ) (s : Cursor) (m : Machine) {k : Command} {a : After} → Agrees c s m → stepOf c s ≡ Taken k a
+pub simulated : (c : Capture) → Sound (listed (windowsOf c)) → (hardware : Hardware) (done : ℕ) (s : Cursor) (m : Machine) {k : Command} {a : After} → Agrees c s m → stepOf c s ≡ Taken k a
     → Simulated c hardware done m k a
 simulated c sound hardware done s m g e =
     let t = took c s e in

@@ -16,7 +16,7 @@ use Rattle.rules.specs.Commands.{rowCount, rowOf, lengthOf}
 use Rattle.rules.proofs.Searching.{either}
 use Rattle.replay.specs.Streamer.{Map, Machine, Step, fails, Hardware, withWord, fetched, fetchedWords, fetchedAddress, placeOf, loadFrom}
 use Rattle.replay.specs.Streamer.{storeWords, advance, stores, update, withRegisters, setPairs, endBatch, startBatch, pipe, exec, step}
-use Rattle.replay.specs.Runs.{commandAt}
+use Rattle.replay.specs.Runs.{fetchedCommand}
 use Rattle.replay.specs.Uses.{row, total, dword, dwords, address, postSync, pairs, StoringRow, OtherRow}
 use Rattle.replay.specs.Uses.{operandsByRow, operands, storedByRow, toStore, storesAt, Whole}
 use Rattle.replay.proofs.Stores.{some-word}
@@ -35,11 +35,11 @@ that-word (w ∷ l) (suc i) e = that-word l i e
 module _ (m : Machine) where
   -- the row and the length that the streamer finds
   row-is : row m ≡ rowOf (dword m 0)
-  unfolding commandAt
+  unfolding fetchedCommand
   row-is = ap (λ (i : ℕ). rowOf (getD (m .batch) i 0)) (sym (add-zero (m .at)))
 
   total-is : total m ≡ lengthOf (rowOf (dword m 0)) (dword m 0)
-  unfolding commandAt
+  unfolding fetchedCommand
   total-is = ap (λ (i : ℕ). lengthOf (rowOf (getD (m .batch) i 0)) (getD (m .batch) i 0)) (sym (add-zero (m .at)))
 
   -- inside the batch a fetch gives its dwords

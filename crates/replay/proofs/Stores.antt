@@ -11,9 +11,9 @@ use mathlib.Core.Logic.{_⊎_, inl, inr, ⊎-elim}
 use lib.ListN.{length, getD, getElem?, set, length-set}
 use lib.Dec.{eqb, leb, ltb, lit<}
 use borrow.Author.Tests.{leb-true, ltb-true, eqb-true, le-leb, lt-ltb, eq-eqb}
-use Rattle.rules.specs.declared.Windows.{Windows}
-use Rattle.rules.specs.declared.Allowed.the-variants.{AnyWindow}
-use Rattle.rules.specs.Windows.{Capture, lent, holds, Inside, windowsOf, windowsAllowed, listed, shareByte, fits}
+use Rattle.rules.specs.declared.Window.{Window}
+use Rattle.rules.specs.declared.Within.the-variants.{AnyWindow}
+use Rattle.rules.specs.Windows.{Capture, lent, holds, Inside, windowsOf, windowsWithin, listed, shareByte, fits}
 use Rattle.rules.proofs.Searching.{either, never-both, and-left, and-right}
 use Rattle.rules.proofs.Ranges.{inside, Sound, noWindow, some-at, no-two-at, both-share}
 use Rattle.replay.specs.Streamer.{Map, Machine, machine, Effect, wordAt, Place, batchWord, stateWord, scratchWord, outside, placed, placeOf, loadFrom, storeTo, noting, withMachine, storeWords}
@@ -47,9 +47,9 @@ module _ (at address : ℕ) (words : List ℕ) where
   unfolding wordAt test
   unfound n = ⊎-elim (λ e. absurd (n (held e))) (λ e. ap (λ t. cond t (some ((address - at) / 4)) none) e) (either test)
 
--- two windows of a sound capture hold no word together
-apart : (w : Windows) → Sound w → (i j : ℕ) → i < j → j < 3 → (a : ℕ) → Inside (getD (listed w) i noWindow) a 4 → Inside (getD (listed w) j noWindow) a 4 → ⊥
-apart w s i j h k a p q = never-both (both-share _ _ a 4 (omega arith) p q) (no-two-at shareByte noWindow (listed w) (s .apart) i j h k)
+-- two of sound windows hold no word together
+apart : (ws : List Window) → Sound ws → (i j : ℕ) → i < j → j < length ws → (a : ℕ) → Inside (getD ws i noWindow) a 4 → Inside (getD ws j noWindow) a 4 → ⊥
+apart ws s i j h k a p q = never-both (both-share _ _ a 4 (omega arith) p q) (no-two-at shareByte noWindow ws (s .apart) i j h k)
 
 -- what stores leave as it was: all of the machine but the words of scratch
 pub record Stored (c : Capture) (m : Machine) (e : Effect) : Type 0 where
@@ -59,7 +59,7 @@ pub record Stored (c : Capture) (m : Machine) (e : Effect) : Type 0 where
   pub windowed : Windowed c (e .machine)
   pub inside : AllInScratch c (e .stored)
 
-module _ (c : Capture) (s : Sound (windowsOf c)) where
+module _ (c : Capture) (s : Sound (listed (windowsOf c))) where
   -- where the streamer finds it
   pub scratch-place : (m : Machine) → Windowed c m → (a : ℕ) → a % 4 ≡ 0 → InScratch c a → placeOf (mapOf c) m a ≡ scratchWord ((a - c .scratchAt) / 4)
   unfolding placeOf windowsOf
@@ -122,7 +122,7 @@ word-in at address words {i} e = by (test at address words) refl e
         omega (arith, same-some q)
     by false p q = absurd (some-not-none (sym q))
 
-module _ (c : Capture) (s : Sound (windowsOf c)) (m : Machine) (w : Windowed c m) (a : ℕ) (e : a % 4 ≡ 0) where
+module _ (c : Capture) (s : Sound (listed (windowsOf c))) (m : Machine) (w : Windowed c m) (a : ℕ) (e : a % 4 ≡ 0) where
   -- a range of four bytes that fits is a word that is found
   found-in : (i : ℕ) → i < 3 → Inside (getD (listed (windowsOf c)) i noWindow) a 4 → (wordAt (c .batchAt) (m .batch) a ≡ none) → (wordAt (c .stateAt) (m .state) a ≡ none) → (wordAt (c .scratchAt) (m .scratch) a ≡ none) → ⊥
   unfolding windowsOf
@@ -144,7 +144,7 @@ module _ (c : Capture) (s : Sound (windowsOf c)) (m : Machine) (w : Windowed c m
   found-in (suc (suc (suc i))) h j p q r = absurd (omega arith)
 
   pub loaded-word : fits (windowsOf c) AnyWindow a 4 ≡ true → (v : ℕ) × (loadFrom m (placeOf (mapOf c) m a) ≡ some v)
-  unfolding placeOf fits windowsAllowed
+  unfolding placeOf fits windowsWithin
   loaded-word f = by (wordAt (c .batchAt) (m .batch) a) (wordAt (c .stateAt) (m .state) a) (wordAt (c .scratchAt) (m .scratch) a) refl refl refl
     where
       by : (x y z : Option ℕ) → wordAt (c .batchAt) (m .batch) a ≡ x → wordAt (c .stateAt) (m .state) a ≡ y → wordAt (c .scratchAt) (m .scratch) a ≡ z → (v : ℕ) × (loadFrom m (placed x y z) ≡ some v)

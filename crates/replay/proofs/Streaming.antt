@@ -14,7 +14,7 @@ use Rattle.rules.specs.declared.After.the-variants.{Ends, To}
 use Rattle.rules.specs.declared.Outcome.{Outcome}
 use Rattle.rules.specs.declared.Outcome.the-variants.{Taken, Refused}
 use Rattle.rules.specs.declared.Verdict.the-variants.{Pass, Fails}
-use Rattle.rules.specs.Windows.{Capture, windowsOf, lengthsOf}
+use Rattle.rules.specs.Windows.{Capture, windowsOf, lengthsOf, listed}
 use Rattle.rules.specs.Step.{budget, stepOf}
 use Rattle.rules.specs.Walk.{Run, trace, traceFrom, cut, start, walk, commandsOf, endOf}
 use Rattle.rules.proofs.Trying.{fails-not-pass}
@@ -37,7 +37,7 @@ pub record Streams (c : Capture) (hardware : Hardware) (done : ℕ) (past : List
   pub fair : AllFair c moments
   pub returns : AllReturn (c .batch) past m moments
 
-follows : (left room : ℕ) (c : Capture) → Sound (windowsOf c) → (hardware : Hardware) (done : ℕ) (past : List Moment) (s : Cursor) (m : Machine) (o : Outcome)
+follows : (left room : ℕ) (c : Capture) → Sound (listed (windowsOf c)) → (hardware : Hardware) (done : ℕ) (past : List Moment) (s : Cursor) (m : Machine) (o : Outcome)
     → stepOf c s ≡ o → Agrees c s m → Origin c past s → endOf (cut room (trace left c s o)) ≡ Pass
     → Streams c hardware done past m (commandsOf (cut room (trace left c s o)))
 unfolding trace cut commandsOf endOf run

@@ -20,14 +20,14 @@ levelOf true = 1
 levelOf false = 0
 
 -- the command that stands at a machine's position, in the batch words as they then stand
-unfoldable pub commandAt : Machine → Command
-commandAt m =
+unfoldable pub fetchedCommand : Machine → Command
+fetchedCommand m =
     let header : ℕ = getD (m .batch) (m .at) 0 in
     record { index = m .at; level = levelOf (m .second); row = rowOf header; length = lengthOf (rowOf header) header }
 
 -- the moment of a command and of what it did
 abbrev pub moment : Machine → Effect → Moment
-moment m e = record { command = commandAt m; stored = e .stored; after = e .machine }
+moment m e = record { command = fetchedCommand m; stored = e .stored; after = e .machine }
 
 -- a moment before those of the rest, if the rest is a run
 abbrev pub more : Moment → Option (List Moment) → Option (List Moment)

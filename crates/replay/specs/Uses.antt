@@ -11,15 +11,15 @@ use lib.Dec.{eqb}
 use Rattle.rules.specs.Words.{field}
 use Rattle.rules.specs.Commands.{noopRow, endRow, startRow, storeRow, storeRegisterRow, loadRegisterRow, pipeRow, rowCount}
 use Rattle.replay.specs.Streamer.{Map, Machine, Hardware, Place, batchWord, stateWord, scratchWord, outside, placeOf}
-use Rattle.replay.specs.Runs.{commandAt}
+use Rattle.replay.specs.Runs.{fetchedCommand}
 
 -- "finds row and length by the command table": those of the command at the position
 abbrev pub row : Machine → ℕ
-row m = commandAt m .row
+row m = fetchedCommand m .row
 
 -- its length
 abbrev pub total : Machine → ℕ
-total m = commandAt m .length
+total m = fetchedCommand m .length
 
 -- "from the batch words as they then stand": its dword k, where there is one
 abbrev pub dword : Machine → ℕ → ℕ

@@ -10,7 +10,7 @@ use lib.ListN.{length, getD, drop, List·getD-eq-default}
 use lib.Dec.{eqb, leb, ltb, lit<, lit≤}
 use borrow.Author.Tests.{eq-eqb, ne-eqb, ltb-true, ltb-false, le-leb, lt-leb, le-ltb}
 use Rattle.rules.specs.Words.{bit, field, cleared, some}
-use Rattle.rules.specs.Commands.{Length, one, exactly, byBit, groups, Row, rows, theRow, keyOf, rowFrom, rowOf, dwordCount, lengthOf, groupSize, fieldRight, lengthRight, rowCount}
+use Rattle.rules.specs.Commands.{Length, noField, exactly, byBit, groups, Row, rows, theRow, keyOf, rowFrom, rowOf, dwordCount, lengthOf, groupSize, fieldRight, lengthRight, rowCount}
 use Rattle.rows.specs.Groups.{groupsRight}
 use Rattle.rules.proofs.Tables.{each, at-each}
 use Rattle.rules.proofs.Searching.{some-left, some-right, or-cases, never-both}
@@ -25,13 +25,13 @@ past zero r rest = omega arith
 past (suc n) r rest = let h : n ≤ r = past n r (rest .0) in let k = rest .1 in omega arith
 
 -- past the table's end
-pub no-row : (r : ℕ) → rowCount ≤ r → theRow r ≡ record { key = 0; free = 0; total = one; masks = [] }
+pub no-row : (r : ℕ) → rowCount ≤ r → theRow r ≡ record { key = 0; free = 0; total = noField; masks = [] }
 unfolding rows theRow
 no-row r h = List·getD-eq-default rows _ h
 
 -- the rows that have a length field
 hasField : Length → Bool
-hasField one = false
+hasField noField = false
 hasField (exactly f) = true
 hasField (byBit b f g) = true
 hasField (groups n) = true
@@ -42,7 +42,7 @@ fields-tested = refl
 
 counted : (t : Length) (header : ℕ) → hasField t ≡ true → header % 256 + 2 ≡ dwordCount t header
 unfolding hasField
-counted one header e = cc
+counted noField header e = cc
 counted (exactly f) header e = omega arith
 counted (byBit b f g) header e = omega arith
 counted (groups n) header e = omega arith
@@ -224,7 +224,7 @@ key-3 header f n0 n1 n2 n3 n4 n5 n6 = by (ltb header (2 ^ 29)) refl
 low-byte : (header : ℕ) → field header 7 0 ≡ header % 256
 low-byte header = omega arith
 
-pub right-none : (r header : ℕ) → theRow r .total ≡ one → true ≡ lengthRight r header
+pub right-none : (r header : ℕ) → theRow r .total ≡ noField → true ≡ lengthRight r header
 unfolding lengthRight
 right-none r header e = rw e
 

@@ -27,7 +27,7 @@ use Rattle.rules.specs.declared.Verdict.the-variants.{Pass, Fails}
 use Rattle.rules.specs.declared.Reason.{Reason}
 use Rattle.rules.specs.declared.Reason.the-variants.{WrongCounts, AddressUnaligned, EndsTooHigh, WindowsShare, RanOff, UnknownHeader, WrongLength, PastTheWindow, NestedStart, FileSize, FileDistance, BufferShort}
 use Rattle.rules.specs.Words.{bit, some, someTwo, firstOf}
-use Rattle.rules.specs.Refusals.{inBatch, inState, fault, refuseIf, refuseFound, tried, firstFault}
+use Rattle.rules.specs.Refusals.{batchWindow, stateWindow, fault, refuseIf, refuseFound, tried, firstFault}
 use Rattle.rules.specs.Windows.{Capture, Lengths, windowLimit, listed, countsWrong, unaligned, endsTooHigh, shareByte, windowChecks, windowFault, lent, holds, holdsDwords, heldAt}
 use Rattle.rules.specs.Commands.{rows, rowCount, theRow, lengthOf, lengthRight}
 use Rattle.rules.specs.Structures.{Asked, askedAt, layoutOf, nowhere, heldWindow, heldFrom, structureNowhere, structureBit, structureValue, structureChecks}
@@ -41,7 +41,7 @@ use Rattle.rules.proofs.Moving.{Within}
 
 -- a place in the batch, its end included, or a place in the state
 abbrev pub InPlace : Capture → Fault → Type 0
-InPlace c f = ((f .window ≡ inBatch) × (f .index ≤ length (c .batch))) ⊎ ((f .window ≡ inState) × (f .index < length (c .state)))
+InPlace c f = ((f .window ≡ batchWindow) × (f .index ≤ length (c .batch))) ⊎ ((f .window ≡ stateWindow) × (f .index < length (c .state)))
 
 -- what a check that fails says
 given-fault : (t : Bool) {g f : Fault} → refuseIf t g ≡ Fails f → (t ≡ true) × (g ≡ f)
@@ -126,12 +126,12 @@ none-fails a e = fails-not-pass (sym e)
 
 module _ (c : Capture) (s : Cursor) (w : Within c s) where
   -- at the header, and at the first such dword
-  header-place : (t : Bool) (reason : Reason) {f : Fault} → refuseIf t (fault reason inBatch (s .at)) ≡ Fails f → InPlace c f
+  header-place : (t : Bool) (reason : Reason) {f : Fault} → refuseIf t (fault reason batchWindow (s .at)) ≡ Fails f → InPlace c f
   header-place t reason e = rw (← given-fault t e .1) (inl (refl, w .position))
 
-  dword-place : (n : ℕ) (bad : ℕ → Bool) (reason : Reason) {f : Fault} → s .at + n ≤ length (c .batch) → refuseFound reason inBatch (s .at) (firstOf bad n) ≡ Fails f → InPlace c f
+  dword-place : (n : ℕ) (bad : ℕ → Bool) (reason : Reason) {f : Fault} → s .at + n ≤ length (c .batch) → refuseFound reason batchWindow (s .at) (firstOf bad n) ≡ Fails f → InPlace c f
   dword-place n bad reason l e =
-      let q = found-fault reason inBatch (s .at) n bad e in
+      let q = found-fault reason batchWindow (s .at) n bad e in
       let b = q .below in
       rw (← q .is) (inl (refl, omega arith))
 
@@ -141,7 +141,7 @@ module _ (c : Capture) (s : Cursor) (w : Within c s) where
   pointer-place l kind offset e = let h = two-long (rowAt (c .batch) (s .at)) (headerAt (c .batch) (s .at)) (dwordsAt (c .batch) (s .at)) e in omega arith
 
   base-place : {f : Fault} (p : Pointer) (b : Base) → ((kind : Kind) (offset : ℕ) → p ≡ PointsTo kind offset → s .at + 1 ≤ length (c .batch)) → (reason : Reason)
-      → refuseIf (baseMissing p b) (fault reason inBatch (s .at + 1)) ≡ Fails f → InPlace c f
+      → refuseIf (baseMissing p b) (fault reason batchWindow (s .at + 1)) ≡ Fails f → InPlace c f
   base-place NoPointer b l reason e = absurd (fails-not-pass (sym e))
   base-place (PointsTo kind offset) Unset l reason e = rw (← same-fault e) (inl (refl, l kind offset refl))
   base-place (PointsTo kind offset) (Set b) l reason e = absurd (fails-not-pass (sym e))
@@ -157,11 +157,11 @@ module _ (c : Capture) (s : Cursor) (w : Within c s) where
   held-place : {f : Fault} (kind : Kind) (address : ℕ) (h : Held) → heldAt (lent (c .batchAt) (length (c .batch))) (lent (c .stateAt) (length (c .state))) address (layoutOf kind .dwords) ≡ h
       → nowhere h ≡ false → (bad : ℕ → Bool) (reason : Reason) → refuseFound reason (heldWindow h) (heldFrom h) (firstOf bad (layoutOf kind .dwords)) ≡ Fails f → InPlace c f
   held-place kind address (InBatch i) eh n bad reason e =
-      let q = found-fault reason inBatch i (layoutOf kind .dwords) bad e in
+      let q = found-fault reason batchWindow i (layoutOf kind .dwords) bad e in
       let b = q .below in
       rw (← q .is) (inl (refl, omega (arith, held-batch _ _ _ _ address (layoutOf kind .dwords) eh)))
   held-place kind address (InState i) eh n bad reason e =
-      let q = found-fault reason inState i (layoutOf kind .dwords) bad e in
+      let q = found-fault reason stateWindow i (layoutOf kind .dwords) bad e in
       let b = q .below in
       rw (← q .is) (inr (refl, omega (arith, held-state _ _ _ _ address (layoutOf kind .dwords) eh)))
   held-place kind address Nowhere eh n bad reason e = absurd (never-both refl n)
@@ -241,7 +241,7 @@ list-says said (check ∷ checks) a p f e = ⊎-elim (p .0 f) (λ q. list-says s
 abbrev pub AtZero : Fault → Type 0
 AtZero f = (f .window ≡ 0) × (f .index ≡ 0)
 
-zeros : (t : Bool) (reason : Reason) (f : Fault) → refuseIf t (fault reason inBatch 0) ≡ Fails f → AtZero f
+zeros : (t : Bool) (reason : Reason) (f : Fault) → refuseIf t (fault reason batchWindow 0) ≡ Fails f → AtZero f
 zeros t reason f q = rw (← given-fault t q .1) (refl, refl)
 
 -- the refusals that precede the walk have place 0,0

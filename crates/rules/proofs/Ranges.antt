@@ -12,10 +12,10 @@ use lib.Dec.{leb, ltb, eqb}
 use borrow.Author.Tests.{leb-true, ltb-true, lt-ltb, ltb-false, eqb-true, not-false}
 use Rattle.rules.specs.declared.Window.{Window}
 use Rattle.rules.specs.declared.Windows.{Windows}
-use Rattle.rules.specs.declared.Allowed.the-variants.{BatchOnly, ScratchOnly, AnyWindow}
+use Rattle.rules.specs.declared.Within.the-variants.{BatchOnly, ScratchOnly, AnyWindow}
 use Rattle.rules.specs.declared.Verdict.the-variants.{Pass}
 use Rattle.rules.specs.Words.{some, someTwo}
-use Rattle.rules.specs.Windows.{Capture, windowLimit, countsWrong, unaligned, window, listed, end, windowsOf, endsTooHigh, shareByte, windowChecks, lengthsOf, Lengths, windowFault, holds, Inside, windowsAllowed, fits}
+use Rattle.rules.specs.Windows.{Capture, windowLimit, pageBytes, countsWrong, unaligned, window, listed, end, windowsOf, endsTooHigh, shareByte, windowChecks, lengthsOf, Lengths, windowFault, holds, Inside, windowsWithin, fits}
 use Rattle.rules.proofs.Searching.{either, never-both, some-left, some-right, or-cases, and-left, and-right}
 use Rattle.rules.proofs.Trying.{all-pass, refuse-passes}
 
@@ -84,13 +84,13 @@ one-holds ws a n h apart e =
         ⊎-elim (λ u. absurd (apart-at k i (ltb-true k i u) li p q)) (λ u. omega (arith, ltb-false i k t, ltb-false k i u)) (either (ltb k i)))
         (either (ltb i k))
 
--- the windows of a capture that passed 1 to 4: each is aligned, none ends above 2^48, and no two share a byte
-pub record Sound (w : Windows) : Type 0 where
-  pub aligned : (i : ℕ) → i < 3 → getD (listed w) i noWindow .at % 4096 ≡ 0
-  pub ends : (i : ℕ) → i < 3 → end (getD (listed w) i noWindow) ≤ 2 ^ 48
-  pub apart : someTwo shareByte (listed w) ≡ false
+-- windows that passed 1 to 4: each is aligned, none ends above 2^48, and no two share a byte
+pub record Sound (ws : List Window) : Type 0 where
+  pub aligned : (i : ℕ) → i < length ws → getD ws i noWindow .at % pageBytes ≡ 0
+  pub ends : (i : ℕ) → i < length ws → end (getD ws i noWindow) ≤ 2 ^ 48
+  pub apart : someTwo shareByte ws ≡ false
 
-pub sound : (l : Lengths) → windowFault l ≡ Pass → Sound (l .windows)
+pub sound : (l : Lengths) → windowFault l ≡ Pass → Sound (listed (l .windows))
 unfolding windowFault windowChecks
 sound l e =
     let p = all-pass l windowChecks e in
@@ -117,8 +117,8 @@ pub record Fitting (w : Windows) (address bytes : ℕ) : Type 0 where
   pub one : OneHolds (listed w) address bytes
   pub below : address + bytes ≤ 2 ^ 48
 
-pub fits-one : (w : Windows) (address bytes : ℕ) → Sound w → 0 < bytes → fits w AnyWindow address bytes ≡ true → Fitting w address bytes
-unfolding fits windowsAllowed
+pub fits-one : (w : Windows) (address bytes : ℕ) → Sound (listed w) → 0 < bytes → fits w AnyWindow address bytes ≡ true → Fitting w address bytes
+unfolding fits windowsWithin
 fits-one w a n s h e =
     let o = one-holds (listed w) a n h (s .apart) e in
     record { one = o; below = omega (arith, o .holds .high, s .ends (o .which) (o .listed)) }
@@ -129,9 +129,9 @@ unfolding some
 only-one {w} a n e = inside w a n (⊎-elim (λ q. q) (λ q. absurd (never-both q refl)) (or-cases (holds w a n) false e))
 
 pub in-batch : (w : Windows) (address bytes : ℕ) → fits w BatchOnly address bytes ≡ true → Inside (w .batch) address bytes
-unfolding fits windowsAllowed
+unfolding fits windowsWithin
 in-batch w a n e = only-one a n e
 
 pub in-scratch : (w : Windows) (address bytes : ℕ) → fits w ScratchOnly address bytes ≡ true → Inside (w .scratch) address bytes
-unfolding fits windowsAllowed
+unfolding fits windowsWithin
 in-scratch w a n e = only-one a n e

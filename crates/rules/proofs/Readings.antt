@@ -10,7 +10,7 @@ use Rattle.rules.specs.declared.Fault.{Fault}
 use Rattle.rules.specs.declared.Verdict.{Verdict}
 use Rattle.rules.specs.declared.Verdict.the-variants.{Pass, Fails}
 use Rattle.rules.specs.declared.Opened.the-variants.{Holds}
-use Rattle.rules.specs.Refusals.{inBatch, fault, firstFault, told}
+use Rattle.rules.specs.Refusals.{batchWindow, fault, firstFault, told}
 use Rattle.rules.specs.Structures.{valuesOf, readingOf, readAt, verdictOf, floatsOf, readingTold, StructureRead}
 use Rattle.rules.specs.File.{Trailer, trailerOf, fileChecks, offer, contentsOf, openedBy, openedOf, openedVerdict, numbersOf, openedTold}
 use Rattle.rules.proofs.Places.{AtZero, file-place}
@@ -34,7 +34,7 @@ unfolding readAt
 structure-read batch batchAt state stateAt kind address pointer = record { answers = refl; tells = reading-told _ kind _ }
 
 -- a fault at 0,0 is its reason there
-at-zero : (f : Fault) → AtZero f → fault (f .reason) inBatch 0 ≡ f
+at-zero : (f : Fault) → AtZero f → fault (f .reason) batchWindow 0 ≡ f
 at-zero f p = λ i. record { reason = f .reason; window = sym (p .0) i; index = sym (p .1) i }
 
 opened-by-told : (v : Verdict) (t : Trailer) → ((f : Fault) → v ≡ Fails f → AtZero f) → openedTold (openedBy v t) ≡ told v (numbersOf (Holds (contentsOf t)))

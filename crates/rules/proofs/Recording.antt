@@ -22,8 +22,8 @@ use Rattle.rules.specs.declared.Fault.{Fault}
 use Rattle.rules.specs.declared.Verdict.{Verdict}
 use Rattle.rules.specs.declared.Verdict.the-variants.{Pass, Fails}
 use Rattle.rules.specs.Words.{bit, field}
-use Rattle.rules.specs.Windows.{Capture, lengthsOf, windowFault}
-use Rattle.rules.specs.Commands.{Length, one, exactly, byBit, groups, rows, rowCount, theRow, dwordCount, fieldRight, lengthOf, groupSize, lengthRight}
+use Rattle.rules.specs.Windows.{Capture, windowLimit, lengthsOf, windowFault}
+use Rattle.rules.specs.Commands.{Length, noField, exactly, byBit, groups, rows, rowCount, theRow, dwordCount, fieldRight, lengthOf, groupSize, lengthRight}
 use Rattle.rules.specs.Step.{budget, levelNumber, commandAt, stepOf}
 use Rattle.rules.specs.Walk.{trace, cut, start, walk, commandsOf}
 use Rattle.rules.specs.Records.{Recordable, recordOf, commandOf, wordsOf, commandsIn}
@@ -35,7 +35,7 @@ use Rattle.rules.proofs.Walking.{walk-sound, walk-unsound}
 
 -- a length rule that never gives 254 dwords or more behind two
 short : Length → ℕ → Bool
-short one size = true
+short noField size = true
 short (exactly f) size = leb f 253
 short (byBit b f g) size = leb f 253 && leb g 253
 short (groups n) size = leb 1 size && leb (n * size) 254
@@ -56,7 +56,7 @@ whole-groups x size n e l h =
 
 short-counted : (t : Length) (size header : ℕ) → short t size ≡ true → fieldRight t size header ≡ true → dwordCount t header < 256
 unfolding short
-short-counted one size header s e = omega arith
+short-counted noField size header s e = omega arith
 short-counted (exactly f) size header s e = let p = leb-true f 253 s in let q = eqb-true _ f e in omega arith
 short-counted (byBit b f g) size header s e =
     let p = either-field (bit header b) f g (field header 7 0) (eqb-true _ _ e) (leb-true f 253 (and-left (leb f 253) _ s)) (leb-true g 253 (and-right (leb f 253) _ s)) in
@@ -76,7 +76,7 @@ level-fits First = omega arith
 level-fits (Second back) = omega arith
 
 -- every command of the walk fits a record
-pub fits-record : (c : Capture) (s : Cursor) {k : Command} {a : After} → length (c .batch) ≤ 4096 → stepOf c s ≡ Taken k a → Recordable k
+pub fits-record : (c : Capture) (s : Cursor) {k : Command} {a : After} → length (c .batch) ≤ windowLimit → stepOf c s ≡ Taken k a → Recordable k
 unfolding commandAt
 fits-record c s l e =
     let t = took c s e in
@@ -92,7 +92,7 @@ fits-record c s l e =
     })
 
 -- the fields of a record, one after the other
-module _ (i l n r : ℕ) (hi : i < 4096) (hl : l < 2) (hn : n < 256) (hr : r < 256) where
+module _ (i l n r : ℕ) (hi : i < 2 ^ 12) (hl : l < 2) (hn : n < 256) (hr : r < 256) where
   word : ℕ
   word = i + 2 ^ 12 * l + 2 ^ 16 * n + 2 ^ 24 * r
 
@@ -133,7 +133,7 @@ all-read-back [] p = refl
 all-read-back (k ∷ ks) p = ap₂ (λ (j : Command) (js : List Command). j ∷ js) (reads-back k (p .0)) (all-read-back ks (p .1))
 
 -- every command that a run tells fits
-run-fits : (left m : ℕ) (c : Capture) (s : Cursor) (o : Outcome) → length (c .batch) ≤ 4096 → stepOf c s ≡ o → AllRecordable (commandsOf (cut m (trace left c s o)))
+run-fits : (left m : ℕ) (c : Capture) (s : Cursor) (o : Outcome) → length (c .batch) ≤ windowLimit → stepOf c s ≡ o → AllRecordable (commandsOf (cut m (trace left c s o)))
 unfolding trace cut commandsOf
 run-fits zero m c s o l e = tt
 run-fits (suc left) m c s (Refused f) l e = tt

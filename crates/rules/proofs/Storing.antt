@@ -9,8 +9,8 @@ use lib.ListN.{length, getD}
 use lib.Dec.{eqb}
 use borrow.Author.Tests.{eq-eqb, ne-eqb, eqb-true, not-false}
 use Rattle.rules.specs.declared.Windows.{Windows}
-use Rattle.rules.specs.declared.Allowed.{Allowed}
-use Rattle.rules.specs.declared.Allowed.the-variants.{BatchOnly, ScratchOnly, AnyWindow}
+use Rattle.rules.specs.declared.Within.{Within}
+use Rattle.rules.specs.declared.Within.the-variants.{BatchOnly, ScratchOnly, AnyWindow}
 use Rattle.rules.specs.declared.Access.{Access}
 use Rattle.rules.specs.declared.Access.the-variants.{Unused, Reaches}
 use Rattle.rules.specs.Words.{bit, field, inGroup}
@@ -21,7 +21,7 @@ use Rattle.rules.specs.Addresses.{rangeWrong}
 use Rattle.rules.proofs.Ranges.{in-batch, in-scratch}
 
 -- an address that is used and whose range is not outside fits where its rule says
-pub access-fits : (w : Windows) (r : ℕ) (d : List ℕ) (k : ℕ) {bytes : ℕ} {allowed : Allowed} → accessAt r d k ≡ Reaches bytes allowed → rangeWrong w r d k ≡ false
+pub access-fits : (w : Windows) (r : ℕ) (d : List ℕ) (k : ℕ) {bytes : ℕ} {allowed : Within} → accessAt r d k ≡ Reaches bytes allowed → rangeWrong w r d k ≡ false
     → fits w allowed (addressAt d k) bytes ≡ true
 unfolding rangeWrong
 access-fits w r d k e h = not-false _ (rw e at h)

@@ -3,7 +3,7 @@ use Prim.Native.Nat.{ℕ}
 use lib.Ieee.{ofBits, nanBits, le}
 use Rattle.rules.specs.Words.{allowed, some, someTwo, firstFrom, inGroup}
 use Rattle.rules.specs.Refusals.{numberOf, tried, answerWith, told}
-use Rattle.rules.specs.Windows.{windowsOf, countsWrong, windowChecks, windowFault, holds, windowsAllowed, fits, holdsDwords, heldAt, partOf}
+use Rattle.rules.specs.Windows.{windowsOf, countsWrong, windowChecks, windowFault, holds, windowsWithin, fits, holdsDwords, heldAt, partOf}
 use Rattle.rules.specs.Commands.{rows, rowCount, theRow, keyOf, rowFrom, rowOf, lengthOf, groupSize, lengthRight}
 use Rattle.rules.specs.Uses.{usesByRow, accessOf, accessAt, addressAt}
 use Rattle.rules.specs.Masks.{masksOf, allowedOf, allowedAt, bitWrong}
@@ -17,5 +17,5 @@ use Rattle.rules.specs.Records.{recordOf, commandOf, wordsOf, commandsIn
 
 -- no sentence of its own: all of document 01 up to "Capture file and printout", for whoever computes
 unfoldable pub book : ℕ
-unfolding ofBits nanBits le allowed some someTwo firstFrom inGroup numberOf tried answerWith told windowsOf countsWrong windowChecks windowFault holds windowsAllowed fits holdsDwords heldAt partOf rows theRow keyOf rowFrom rowOf lengthOf groupSize lengthRight masksOf allowedOf allowedAt bitWrong surfaceFormats formatBits knownTopology knownRegister componentsWrong valueRules ruleOf valueWrong usesByRow accessOf accessAt addressAt rangeWrong layoutOf structureBitWrong depthWrong colourWrong structureValueWrong structureNowhere structureBit structureValue structureChecks readAt verdictOf dwordsAt pointerOf budgetSpent ranOff unknownHeader wrongLength pastTheWindow bitNotAllowed nestedStart valueBroken rangeOutside baseNeverSet recordsFull stepChecks checks afterEnd baseAfter moveOf commandAt stepOf trace cut walk commandsOf endOf answerOf recordOf commandOf wordsOf commandsIn writtenOf
+unfolding ofBits nanBits le allowed some someTwo firstFrom inGroup numberOf tried answerWith told windowsOf countsWrong windowChecks windowFault holds windowsWithin fits holdsDwords heldAt partOf rows theRow keyOf rowFrom rowOf lengthOf groupSize lengthRight masksOf allowedOf allowedAt bitWrong surfaceFormats formatBits knownTopology knownRegister componentsWrong valueRules ruleOf valueWrong usesByRow accessOf accessAt addressAt rangeWrong layoutOf structureBitWrong depthWrong colourWrong structureValueWrong structureNowhere structureBit structureValue structureChecks readAt verdictOf dwordsAt pointerOf budgetSpent ranOff unknownHeader wrongLength pastTheWindow bitNotAllowed nestedStart valueBroken rangeOutside baseNeverSet recordsFull stepChecks checks afterEnd baseAfter moveOf commandAt stepOf trace cut walk commandsOf endOf answerOf recordOf commandOf wordsOf commandsIn writtenOf
 book = 0

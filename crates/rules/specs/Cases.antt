@@ -24,8 +24,8 @@ pub record Case : Type 0 where
   pub records : List ℕ
 
 -- "Batch at 100000h, state at 200000h, scratch 300000h with 4,096 bytes"; no case depends on the state's dwords, so it has none
-abbrev pub captureOf : List ℕ → Capture
-captureOf batch =
+abbrev pub caseCapture : List ℕ → Capture
+caseCapture batch =
     record { batch = batch; batchAt = 0x100000; state = []; stateAt = 0x200000; scratchAt = 0x300000; scratchBytes = 4096 }
 
 -- "ample room": eight words, each unlike any record and unlike the others, so that a word that should stay is seen to
@@ -33,8 +33,8 @@ abbrev pub ample : List ℕ
 ample = 0xEEEEE001 ∷ 0xEEEEE002 ∷ 0xEEEEE003 ∷ 0xEEEEE004 ∷ 0xEEEEE005 ∷ 0xEEEEE006 ∷ 0xEEEEE007 ∷ 0xEEEEE008 ∷ []
 
 -- "room 4"
-abbrev pub four : List ℕ
-four = 0xEEEEE001 ∷ 0xEEEEE002 ∷ 0xEEEEE003 ∷ 0xEEEEE004 ∷ []
+abbrev pub fourWords : List ℕ
+fourWords = 0xEEEEE001 ∷ 0xEEEEE002 ∷ 0xEEEEE003 ∷ 0xEEEEE004 ∷ []
 
 -- a line of the table, "C", "Batch", "Answer"; every case has its place in window 0
 abbrev case : ℕ → List ℕ → List ℕ → ℕ → ℕ → ℕ → List ℕ → Case
@@ -49,7 +49,7 @@ cases =
     ∷ case 3 (0x00000000 ∷ []) ample 6 1 1 (0x00010000 ∷ [])
     ∷ case 4 (0x05000001 ∷ []) ample 10 0 0 []
     ∷ case 5 (0x40000000 ∷ []) ample 7 0 0 []
-    ∷ case 6 (0x18800101 ∷ 0x00100000 ∷ 0 ∷ []) four 18 0 4 (0x02030000 ∷ 0x02030000 ∷ 0x02030000 ∷ 0x02030000 ∷ [])
+    ∷ case 6 (0x18800101 ∷ 0x00100000 ∷ 0 ∷ []) fourWords 18 0 4 (0x02030000 ∷ 0x02030000 ∷ 0x02030000 ∷ 0x02030000 ∷ [])
     ∷ case 7 (0x18C00101 ∷ 0x00100010 ∷ 0 ∷ 0x05000000 ∷ 0x05000000 ∷ []) ample 0 0 3 (0x02030000 ∷ 0x01011004 ∷ 0x01010003 ∷ [])
     ∷ case 8 (0x10000002 ∷ 0x00300FFC ∷ 0 ∷ 0 ∷ 0x05000000 ∷ []) ample 0 0 2 (0x04040000 ∷ 0x01010004 ∷ [])
     ∷ case 9 (0x00000000 ∷ 0x10000002 ∷ 0x00301000 ∷ 0 ∷ 0 ∷ 0x05000000 ∷ []) ample 13 2 1 (0x00010000 ∷ [])
@@ -75,7 +75,7 @@ gives run k = sameAnswer (answerOf run) k && sameWords (writtenOf run (k .before
 
 -- "ample room unless said": the walk of a case
 abbrev pub runOf : Case → Run
-runOf k = walk Unset (captureOf (k .batch)) (roomOf (length (k .before)))
+runOf k = walk Unset (caseCapture (k .batch)) (roomOf (length (k .before)))
 
 -- "proved once over a table of them": a case that is not given is named
 abbrev pub namedIf : Bool → ℕ → List ℕ → List ℕ

@@ -82,7 +82,7 @@ rowCount = 17
 -- the table's column "Header", what it says of the length: "the field in bits 7:0"
 pub data Length : Type 0 where
   -- "1 in rows 0, 1 and 8, which have no field"
-  one : Length
+  noField : Length
   -- the field's one value
   exactly : ℕ → Length
   -- the field's value where a header bit is clear, and where it is set
@@ -97,7 +97,7 @@ pub record Row : Type 0 where
   pub total : Length
   pub masks : List ℕ
 
--- a line of the table, in the order of its columns "Header" and "Allowed bits, by dword"
+-- a line of the table, in the order of its columns "Header" and "Within bits, by dword"
 abbrev row : ℕ → ℕ → Length → List ℕ → Row
 row key free total masks = record { key = key; free = free; total = total; masks = masks }
 
@@ -113,13 +113,13 @@ anyDword = 0xFFFFFFFF
 abbrev pub highDword : ℕ
 highDword = 0x0000FFFF
 
--- the table of "Commands": "Row", "Command", "Header", "Allowed bits, by dword"
+-- the table of "Commands": "Row", "Command", "Header", "Within bits, by dword"
 unfoldable pub rows : List Row
 rows =
     -- 0 MI_NOOP
-    row 0x00000000 (bits 21 0) one []
+    row 0x00000000 (bits 21 0) noField []
     -- 1 MI_BATCH_BUFFER_END
-    ∷ row 0x05000000 0 one []
+    ∷ row 0x05000000 0 noField []
     -- 2 MI_BATCH_BUFFER_START
     ∷ row 0x18800000 (bits 22 22 + bits 8 8) (exactly 1) (0xFFFFFFFC ∷ highDword ∷ [])
     -- 3 MI_LOAD_REGISTER_IMM
@@ -133,7 +133,7 @@ rows =
     -- 7 PIPE_CONTROL
     ∷ row 0x7A000000 0 (exactly 4) (0x0010FCBF ∷ 0xFFFFFFFC ∷ highDword ∷ anyDword ∷ anyDword ∷ [])
     -- 8 PIPELINE_SELECT
-    ∷ row 0x69040000 0 one []
+    ∷ row 0x69040000 0 noField []
     -- 9 STATE_BASE_ADDRESS: dwords 1 to 15
     ∷ row 0x61010000 0 (exactly 0x0E)
     (0xFFFFF7F1 ∷ highDword ∷ 0x007F0000 ∷ 0xFFFFF7F1 ∷ highDword ∷ 0xFFFFF7F1 ∷ highDword ∷ 0xFFFFF7F1 ∷ highDword ∷ 0xFFFFF7F1 ∷ highDword
@@ -161,7 +161,7 @@ rows-counted = refl
 
 -- "header not in the table": a number that is no row has a row that allows nothing
 abbrev noRow : Row
-noRow = row 0 0 one []
+noRow = row 0 0 noField []
 
 -- the table's column "Row": what stands in a row, by its number
 unfoldable pub theRow : ℕ → Row
@@ -184,7 +184,7 @@ rowOf header = rowFrom (keyOf header) rows
 
 -- "Total length is the field in bits 7:0 plus 2, or 1 in rows 0, 1 and 8, which have no field."
 abbrev pub dwordCount : Length → ℕ → ℕ
-dwordCount one header = 1
+dwordCount noField header = 1
 dwordCount (exactly f) header = field header 7 0 + 2
 dwordCount (byBit b f g) header = field header 7 0 + 2
 dwordCount (groups n) header = field header 7 0 + 2
@@ -195,7 +195,7 @@ lengthOf r header = dwordCount (theRow r .total) header
 
 -- "field 2n-1, n 1..64", "10000002h, or 10200003h": the field is one that the row has; `size` is the dwords of a group
 abbrev pub fieldRight : Length → ℕ → ℕ → Bool
-fieldRight one size header = true
+fieldRight noField size header = true
 fieldRight (exactly f) size header = eqb (field header 7 0) f
 fieldRight (byBit b f g) size header = eqb (field header 7 0) (cond (bit header b) g f)
 fieldRight (groups n) size header =

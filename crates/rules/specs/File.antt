@@ -13,7 +13,7 @@ use Rattle.rules.specs.declared.Verdict.the-variants.{Pass, Fails}
 use Rattle.rules.specs.declared.Reason.the-variants.{WrongCounts, FileSize, FileDistance, BufferShort}
 use Rattle.rules.specs.declared.Answer.{Answer}
 use Rattle.rules.specs.declared.Base.{Base}
-use Rattle.rules.specs.Refusals.{inBatch, fault, refuseIf, firstFault, answerWith, Told, told}
+use Rattle.rules.specs.Refusals.{batchWindow, fault, refuseIf, firstFault, answerWith, Told, told}
 use Rattle.rules.specs.Windows.{Capture, window, countsWrong}
 use Rattle.rules.specs.Walk.{Run, unless, walk, answerOf}
 use Rattle.rules.specs.Records.{roomOf, writtenOf}
@@ -91,10 +91,10 @@ bufferShort o = ltb (o .batchRoom) (trailerOf (o .file) .batchCount) || ltb (o .
 -- "Refusals in order: 19 ..; 20 ..; 1 ..; 21 ..", all with "place 0,0"
 unfoldable pub fileChecks : List (Offer → Verdict)
 fileChecks =
-    (λ o. refuseIf (sizeWrong o) (fault FileSize inBatch 0))
-    ∷ (λ o. refuseIf (distanceWrong o) (fault FileDistance inBatch 0))
-    ∷ (λ o. refuseIf (fileCountsWrong o) (fault WrongCounts inBatch 0))
-    ∷ (λ o. refuseIf (bufferShort o) (fault BufferShort inBatch 0))
+    (λ o. refuseIf (sizeWrong o) (fault FileSize batchWindow 0))
+    ∷ (λ o. refuseIf (distanceWrong o) (fault FileDistance batchWindow 0))
+    ∷ (λ o. refuseIf (fileCountsWrong o) (fault WrongCounts batchWindow 0))
+    ∷ (λ o. refuseIf (bufferShort o) (fault BufferShort batchWindow 0))
     ∷ []
 
 -- "batch, state and scratch address .., scratch length, batch count, state count": what the reader answers of a file that it accepts
@@ -118,7 +118,7 @@ openedOf file batchRoom stateRoom =
 -- "place 0,0": what each case of the reader's answer says of the file
 unfoldable pub openedVerdict : Opened → Verdict
 openedVerdict (Holds contents) = Pass
-openedVerdict (NotRead reason) = Fails (fault reason inBatch 0)
+openedVerdict (NotRead reason) = Fails (fault reason batchWindow 0)
 
 -- "batch, state and scratch address .., scratch length, batch count, state count": the values of contents, and none with a refusal
 unfoldable pub numbersOf : Opened → List ℕ
@@ -164,8 +164,8 @@ pub record FileRead (file batch state : List ℕ) (opened : Opened) (newBatch ne
   pub stateFilled : newState ≡ filledBy (openedOf file (length batch) (length state)) (stateDwords file) state
 
 -- "Little-endian: batch dwords, state dwords, then a 40-byte trailer": the capture that a file holds
-unfoldable pub captureOf : List ℕ → Capture
-captureOf file =
+unfoldable pub fileCapture : List ℕ → Capture
+fileCapture file =
     let t : Trailer = trailerOf file in
     record {
       batch = batchDwords file;
@@ -178,7 +178,7 @@ captureOf file =
 
 -- "Capture file and printout": the run of a file, which is its refusal by the reader, or the walk of the capture that it holds
 abbrev pub runBy : Base → Opened → List ℕ → ℕ → Run
-runBy base opened file room = unless (openedVerdict opened) (walk base (captureOf file) room)
+runBy base opened file room = unless (openedVerdict opened) (walk base (fileCapture file) room)
 
 -- "Capture file and printout": the run of a file, by the room of the three lent buffers
 unfoldable pub fileRun : Base → List ℕ → ℕ → ℕ → ℕ → Run

@@ -1,14 +1,14 @@
--- Document 01, "Commands": "Allowed bits, by dword", and the refusal 10.
+-- Document 01, "Commands": "Within bits, by dword", and the refusal 10.
 use Prim.Native.Nat.{ℕ, _+_}
 use mathlib.Core.Bool.{Bool, not}
 use mathlib.Core.List.{List, _∷_}
 use lib.ListN.{getD}
 use Rattle.rules.specs.Words.{allowed}
-use Rattle.rules.specs.Commands.{Length, one, exactly, byBit, groups, Row, theRow, spot}
+use Rattle.rules.specs.Commands.{Length, noField, exactly, byBit, groups, Row, theRow, spot}
 
 -- "the field in bits 7:0": these bits, of a header that has a field
 abbrev pub fieldBits : Length → ℕ
-fieldBits one = 0
+fieldBits noField = 0
 fieldBits (exactly f) = 0xFF
 fieldBits (byBit b f g) = 0xFF
 fieldBits (groups n) = 0xFF
@@ -22,12 +22,12 @@ headerMask r = r .key + (r .free + fieldBits (r .total))
 unfoldable pub masksOf : ℕ → List ℕ
 masksOf r = headerMask (theRow r) ∷ theRow r .masks
 
--- "Allowed bits, by dword": those of the dword k of a command, the dword j of its group. They do not depend on its dwords today; a rule that looks
+-- "Within bits, by dword": those of the dword k of a command, the dword j of its group. They do not depend on its dwords today; a rule that looks
 -- at other dwords would stand here.
 unfoldable pub allowedOf : ℕ → List ℕ → ℕ → ℕ → ℕ
 allowedOf r dwords k j = getD (masksOf r) j 0
 
--- "Allowed bits, by dword": by the dword's own number
+-- "Within bits, by dword": by the dword's own number
 unfoldable pub allowedAt : ℕ → List ℕ → ℕ → ℕ
 allowedAt r dwords k = allowedOf r dwords k (spot r k)
 

@@ -10,7 +10,7 @@ use Rattle.rules.specs.declared.Command.{Command}
 use Rattle.rules.specs.declared.Answer.{Answer}
 use Rattle.rules.specs.Walk.{Run, commandsOf, answerOf}
 use Rattle.rules.specs.Records.{roomOf, wordsOf, commandOf, startingBase}
-use Rattle.rules.specs.File.{fileLimit, trailerOf, fileChecks, openedOf, openedVerdict, dwordsFrom, batchDwords, stateDwords, captureOf, fileRun}
+use Rattle.rules.specs.File.{fileLimit, trailerOf, fileChecks, openedOf, openedVerdict, dwordsFrom, batchDwords, stateDwords, fileCapture, fileRun}
 use Rattle.rules.specs.Book.{book}
 
 -- "in decimal": the bytes of a number, with no leading zero; so many digits at most
@@ -49,10 +49,14 @@ recordLines (word ∷ words) = recordLine word ++ recordLines words
 unfoldable pub printout : Answer → List ℕ → List ℕ
 printout answer records = answerLine answer ++ recordLines records
 
+-- "The program lends 4,096 record words"
+abbrev pub recordWords : ℕ
+recordWords = 4096
+
 -- "The program lends 4,096 record words and prints": what it prints for a file; the two word buffers hold the largest windows
 unfoldable pub printed : List ℕ → List ℕ
 printed file =
-    let run : Run = fileRun startingBase file fileLimit fileLimit (roomOf 4096) in printout (answerOf run) (wordsOf (commandsOf run))
+    let run : Run = fileRun startingBase file fileLimit fileLimit (roomOf recordWords) in printout (answerOf run) (wordsOf (commandsOf run))
 
 -- "For batch 00000000h, 05000000h": its file, in the windows of "Cases", with no state dword
 abbrev exampleFile : List ℕ
@@ -70,5 +74,5 @@ exampleFile =
 
 -- "For batch 00000000h, 05000000h": the document's own example, the file's bytes in and the three lines out
 pub the-example : printed exampleFile ≡ bytes "reason 0 window 0 index 0 commands 2\n0 0 0 1\n1 0 1 1\n"
-unfolding book trailerOf fileChecks openedOf openedVerdict dwordsFrom batchDwords stateDwords captureOf fileRun digitsOf answerLine commandLine recordLines printout printed
+unfolding book trailerOf fileChecks openedOf openedVerdict dwordsFrom batchDwords stateDwords fileCapture fileRun digitsOf answerLine commandLine recordLines printout printed
 the-example = refl

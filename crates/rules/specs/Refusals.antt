@@ -37,12 +37,12 @@ numberOf FileDistance = 20
 numberOf BufferShort = 21
 
 -- "window (0 batch, 1 state)"
-abbrev pub inBatch : ℕ
-inBatch = 0
+abbrev pub batchWindow : ℕ
+batchWindow = 0
 
 -- "window (0 batch, 1 state)"
-abbrev pub inState : ℕ
-inState = 1
+abbrev pub stateWindow : ℕ
+stateWindow = 1
 
 -- a row of the table: "No." by its reason, and "Place", which is a window and an index
 abbrev pub fault : Reason → ℕ → ℕ → Fault

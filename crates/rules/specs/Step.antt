@@ -23,7 +23,7 @@ use Rattle.rules.specs.declared.Verdict.{Verdict}
 use Rattle.rules.specs.declared.Verdict.the-variants.{Pass, Fails}
 use Rattle.rules.specs.declared.Reason.the-variants.{BudgetSpent, RanOff, UnknownHeader, WrongLength, PastTheWindow, BitNotAllowed, NestedStart, ValueBroken, RangeOutside, BaseNeverSet, RecordsFull}
 use Rattle.rules.specs.Words.{bit, field, cleared, firstOf}
-use Rattle.rules.specs.Refusals.{inBatch, fault, refuseIf, refuseFound, firstFault}
+use Rattle.rules.specs.Refusals.{batchWindow, fault, refuseIf, refuseFound, firstFault}
 use Rattle.rules.specs.Windows.{Capture, windowsOf, dwordOf}
 use Rattle.rules.specs.Commands.{endRow, startRow, baseRow, viewportRow, colourRow, rowCount, rowOf, lengthOf, lengthRight}
 use Rattle.rules.specs.Masks.{bitWrong}
@@ -103,11 +103,11 @@ dwordsHere h = dwordsAt (h .capture .batch) (at h)
 
 -- the place "header"
 abbrev pub atHeader : Reason → Here → Bool → Verdict
-atHeader reason h given = refuseIf given (fault reason inBatch (at h))
+atHeader reason h given = refuseIf given (fault reason batchWindow (at h))
 
 -- the place "first such dword"
 abbrev pub atFirst : Reason → Here → (ℕ → Bool) → Verdict
-atFirst reason h wrong = refuseFound reason inBatch (at h) (firstOf wrong (lengthHere h))
+atFirst reason h wrong = refuseFound reason batchWindow (at h) (firstOf wrong (lengthHere h))
 
 -- the places "pointer dword" and "dword in its window": the pointer is dword 1 of its command
 abbrev pub ofStructure : (Asked → Verdict) → Here → Verdict
@@ -119,7 +119,7 @@ budget = 65536
 
 -- 5: at the "next position"
 abbrev pub spentAt : ℕ → Fault
-spentAt position = fault BudgetSpent inBatch position
+spentAt position = fault BudgetSpent batchWindow position
 
 -- 5: "65,536 commands done, run not ended"
 unfoldable pub budgetSpent : ℕ → Here → Verdict
@@ -160,11 +160,11 @@ rangeOutside h = atFirst RangeOutside h (rangeWrong (windowsOf (h .capture)) (ro
 -- 14: "dynamic state base never set", at the "pointer dword"
 unfoldable pub baseNeverSet : Here → Verdict
 baseNeverSet h =
-    refuseIf (baseMissing (pointerOf (rowHere h) (dwordsHere h)) (h .cursor .base)) (fault BaseNeverSet inBatch (at h + 1))
+    refuseIf (baseMissing (pointerOf (rowHere h) (dwordsHere h)) (h .cursor .base)) (fault BaseNeverSet batchWindow (at h + 1))
 
 -- 18: at the "header"
 abbrev pub fullAt : ℕ → Fault
-fullAt header = fault RecordsFull inBatch header
+fullAt header = fault RecordsFull batchWindow header
 
 -- 18: "record buffer full"
 unfoldable pub recordsFull : ℕ → ℕ → Here → Verdict

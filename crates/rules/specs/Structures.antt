@@ -16,7 +16,7 @@ use Rattle.rules.specs.declared.Verdict.{Verdict}
 use Rattle.rules.specs.declared.Verdict.the-variants.{Pass, Fails}
 use Rattle.rules.specs.declared.Reason.the-variants.{StructureNowhere, StructureBit, StructureValue}
 use Rattle.rules.specs.Words.{allowed, firstOf, inGroup}
-use Rattle.rules.specs.Refusals.{inBatch, inState, fault, refuseIf, refuseFound, firstFault, Told, told}
+use Rattle.rules.specs.Refusals.{batchWindow, stateWindow, fault, refuseIf, refuseFound, firstFault, Told, told}
 use Rattle.rules.specs.Windows.{lent, heldAt, partOf}
 use Rattle.rules.specs.Commands.{anyDword}
 
@@ -83,9 +83,9 @@ nowhere Nowhere = true
 
 -- the place of 16 and 17: "dword in its window"
 abbrev pub heldWindow : Held → ℕ
-heldWindow (InBatch i) = inBatch
-heldWindow (InState i) = inState
-heldWindow Nowhere = inBatch
+heldWindow (InBatch i) = batchWindow
+heldWindow (InState i) = stateWindow
+heldWindow Nowhere = batchWindow
 
 -- "dword in its window": the one at which the structure starts there
 abbrev pub heldFrom : Held → ℕ
@@ -95,7 +95,7 @@ heldFrom Nowhere = 0
 
 -- 15: "structure in neither lent window", at the "pointer dword"
 unfoldable pub structureNowhere : Asked → Verdict
-structureNowhere a = refuseIf (nowhere (a .held)) (fault StructureNowhere inBatch (a .pointer))
+structureNowhere a = refuseIf (nowhere (a .held)) (fault StructureNowhere batchWindow (a .pointer))
 
 -- 16, at the first such "dword in its window"
 unfoldable pub structureBit : Asked → Verdict

@@ -5,7 +5,7 @@ use mathlib.Core.Bool.{Bool, cond, not, _&&_}
 use mathlib.Core.List.{List, [], _∷_}
 use lib.ListN.{length, getD}
 use lib.Dec.{eqb}
-use Rattle.rules.specs.declared.Allowed.the-variants.{BatchOnly, ScratchOnly, AnyWindow}
+use Rattle.rules.specs.declared.Within.the-variants.{BatchOnly, ScratchOnly, AnyWindow}
 use Rattle.rules.specs.declared.Access.{Access}
 use Rattle.rules.specs.declared.Access.the-variants.{Unused, Reaches}
 use Rattle.rules.specs.Words.{bit, field}

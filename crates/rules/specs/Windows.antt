@@ -6,14 +6,14 @@ use lib.ListN.{length, take, drop}
 use lib.Dec.{leb, ltb, eqb}
 use Rattle.rules.specs.declared.Window.{Window}
 use Rattle.rules.specs.declared.Windows.{Windows}
-use Rattle.rules.specs.declared.Allowed.{Allowed}
-use Rattle.rules.specs.declared.Allowed.the-variants.{BatchOnly, ScratchOnly, AnyWindow}
+use Rattle.rules.specs.declared.Within.{Within}
+use Rattle.rules.specs.declared.Within.the-variants.{BatchOnly, ScratchOnly, AnyWindow}
 use Rattle.rules.specs.declared.Held.{Held}
 use Rattle.rules.specs.declared.Held.the-variants.{InBatch, InState, Nowhere}
 use Rattle.rules.specs.declared.Verdict.{Verdict}
 use Rattle.rules.specs.declared.Reason.the-variants.{WrongCounts, AddressUnaligned, EndsTooHigh, WindowsShare}
 use Rattle.rules.specs.Words.{some, someTwo}
-use Rattle.rules.specs.Refusals.{inBatch, fault, refuseIf, firstFault}
+use Rattle.rules.specs.Refusals.{batchWindow, fault, refuseIf, firstFault}
 
 -- "A capture has a batch window .. and a state window .., both lent as 32-bit words and never written, and a scratch window known only by address
 -- and byte length"
@@ -57,9 +57,13 @@ end w = w .at + w .bytes
 unfoldable pub countsWrong : ℕ → ℕ → ℕ → Bool
 countsWrong limit batch state = eqb batch 0 || (ltb limit batch || ltb limit state)
 
+-- "a multiple of 4,096"
+abbrev pub pageBytes : ℕ
+pageBytes = 4096
+
 -- 2: "Each address is a multiple of 4,096"
 abbrev pub unaligned : Window → Bool
-unaligned w = not (eqb (w .at % 4096) 0)
+unaligned w = not (eqb (w .at % pageBytes) 0)
 
 -- 3: "each window ends at or below 2^48, by the exact sum"
 abbrev pub endsTooHigh : Window → Bool
@@ -78,10 +82,10 @@ pub record Lengths : Type 0 where
 -- "1 to 4 precede the walk", in this order, with place 0,0
 unfoldable pub windowChecks : List (Lengths → Verdict)
 windowChecks =
-    (λ l. refuseIf (countsWrong windowLimit (l .batch) (l .state)) (fault WrongCounts inBatch 0))
-    ∷ (λ l. refuseIf (some unaligned (listed (l .windows))) (fault AddressUnaligned inBatch 0))
-    ∷ (λ l. refuseIf (some endsTooHigh (listed (l .windows))) (fault EndsTooHigh inBatch 0))
-    ∷ (λ l. refuseIf (someTwo shareByte (listed (l .windows))) (fault WindowsShare inBatch 0))
+    (λ l. refuseIf (countsWrong windowLimit (l .batch) (l .state)) (fault WrongCounts batchWindow 0))
+    ∷ (λ l. refuseIf (some unaligned (listed (l .windows))) (fault AddressUnaligned batchWindow 0))
+    ∷ (λ l. refuseIf (some endsTooHigh (listed (l .windows))) (fault EndsTooHigh batchWindow 0))
+    ∷ (λ l. refuseIf (someTwo shareByte (listed (l .windows))) (fault WindowsShare batchWindow 0))
     ∷ []
 
 -- "batch count .., state count ..": those of a capture, and where its windows lie
@@ -102,14 +106,14 @@ pub record Inside (w : Window) (address bytes : ℕ) : Type 0 where
   pub high : address + bytes ≤ end w
 
 -- "in the batch window", "in scratch", "in any window": the windows that an address rule names
-unfoldable pub windowsAllowed : Allowed → Windows → List Window
-windowsAllowed BatchOnly w = w .batch ∷ []
-windowsAllowed ScratchOnly w = w .scratch ∷ []
-windowsAllowed AnyWindow w = listed w
+unfoldable pub windowsWithin : Within → Windows → List Window
+windowsWithin BatchOnly w = w .batch ∷ []
+windowsWithin ScratchOnly w = w .scratch ∷ []
+windowsWithin AnyWindow w = listed w
 
 -- "A range fits if all its bytes lie in one window", of those that its rule names
-unfoldable pub fits : Windows → Allowed → ℕ → ℕ → Bool
-fits w allowed address bytes = some (λ v. holds v address bytes) (windowsAllowed allowed w)
+unfoldable pub fits : Windows → Within → ℕ → ℕ → Bool
+fits w allowed address bytes = some (λ v. holds v address bytes) (windowsWithin allowed w)
 
 -- "the structure's own dwords": n dwords at an address that is a whole dword of the window
 unfoldable pub holdsDwords : Window → ℕ → ℕ → Bool

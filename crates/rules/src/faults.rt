@@ -1,6 +1,6 @@
 // Document 01's number of a reason, and a fault in the batch.
 ghost use mathlib.Core.Path.{_≡_};
-ghost use Rattle.rules.specs.Refusals.{inBatch, fault, numberOf};
+ghost use Rattle.rules.specs.Refusals.{batchWindow, fault, numberOf};
 use crate::Fault;
 use crate::Reason;
 
@@ -35,7 +35,7 @@ pub fn number(reason: Reason) -> u32
 
 // A fault in the batch, at this dword.
 pub fn in_batch(reason: Reason, index: usize) -> Fault
-    ensures { λ r. ⌜ r ≡ fault reason inBatch index ⌝ }
+    ensures { λ r. ⌜ r ≡ fault reason batchWindow index ⌝ }
 {
     Fault {
         reason,

@@ -63,7 +63,7 @@ pub struct Windows {
 }
 
 // Which windows an address range may lie in.
-pub enum Allowed {
+pub enum Within {
     BatchOnly,
     ScratchOnly,
     AnyWindow,
@@ -72,7 +72,7 @@ pub enum Allowed {
 // Whether a dword is the low dword of an address that its command uses: for how many bytes, and where they may lie.
 pub enum Access {
     Unused,
-    Reaches(u64, Allowed),
+    Reaches(u64, Within),
 }
 
 // Which of the two lent windows holds a structure, and at which dword it starts there.

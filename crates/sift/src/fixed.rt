@@ -19,8 +19,8 @@ use commands::addresses::pipe_use;
 use commands::addresses::store_use;
 use commands::dwords::address_at;
 use rules::Access;
-use rules::Allowed;
 use rules::Windows;
+use rules::Within;
 use windows::access_wrong;
 
 // Whether the address that starts at k fits, if it is used.
@@ -41,7 +41,7 @@ pub fn start(w: Windows, d: &[u32], formats: &[u16; 512]) -> bool
     if !values::one(2, d, 0, 0, formats) {
         return false;
     }
-    held(w, d, 1, Access::Reaches(4, Allowed::BatchOnly))
+    held(w, d, 1, Access::Reaches(4, Within::BatchOnly))
 }
 
 // Bit 21 of the header tells the length: a store of eight bytes has a dword more.
@@ -79,7 +79,7 @@ pub fn store_register(w: Windows, d: &[u32], formats: &[u16; 512]) -> bool
     if !values::one(5, d, 1, 1, formats) {
         return false;
     }
-    held(w, d, 2, Access::Reaches(4, Allowed::ScratchOnly))
+    held(w, d, 2, Access::Reaches(4, Within::ScratchOnly))
 }
 
 pub fn load_register(w: Windows, d: &[u32], formats: &[u16; 512]) -> bool
@@ -92,7 +92,7 @@ pub fn load_register(w: Windows, d: &[u32], formats: &[u16; 512]) -> bool
     if !values::one(6, d, 1, 1, formats) {
         return false;
     }
-    held(w, d, 2, Access::Reaches(4, Allowed::AnyWindow))
+    held(w, d, 2, Access::Reaches(4, Within::AnyWindow))
 }
 
 pub fn pipe(w: Windows, d: &[u32], formats: &[u16; 512]) -> bool

@@ -21,7 +21,7 @@ use Rattle.rules.specs.declared.Verdict.{Verdict}
 use Rattle.rules.specs.declared.Verdict.the-variants.{Pass, Fails}
 use Rattle.rules.specs.declared.Reason.the-variants.{BitNotAllowed, NestedStart, ValueBroken, RangeOutside, BaseNeverSet}
 use Rattle.rules.specs.Words.{firstOf}
-use Rattle.rules.specs.Refusals.{inBatch, fault, refuseIf, refuseFound, tried, firstFault}
+use Rattle.rules.specs.Refusals.{batchWindow, fault, refuseIf, refuseFound, tried, firstFault}
 use Rattle.rules.specs.Windows.{Capture}
 use Rattle.rules.specs.Uses.{accessAt}
 use Rattle.rules.specs.Masks.{allowedOf, allowedAt, bitWrong}
@@ -43,22 +43,22 @@ found-below bad n e = omega (arith, first-found bad 0 n e .below)
 
 -- the ways out of the checks of the dwords
 module _ (w : Windows) (r : ℕ) (d : List ℕ) (at : ℕ) (level : Level) where
-  pub bits-fail : {k : ℕ} → firstOf (wrong Bits w r d) (length d) ≡ At k → Fails (fault BitNotAllowed inBatch (at + k)) ≡ contentOf w r d at level
+  pub bits-fail : {k : ℕ} → firstOf (wrong Bits w r d) (length d) ≡ At k → Fails (fault BitNotAllowed batchWindow (at + k)) ≡ contentOf w r d at level
   unfolding contentOf wrong wrongAt bitWrong allowedOf allowedAt
   bits-fail e = rw e
 
   module _ (b : firstOf (wrong Bits w r d) (length d) ≡ Nothing) where
-    pub nested-fails : nested r level ≡ true → Fails (fault NestedStart inBatch at) ≡ contentOf w r d at level
+    pub nested-fails : nested r level ≡ true → Fails (fault NestedStart batchWindow at) ≡ contentOf w r d at level
     unfolding contentOf wrong wrongAt bitWrong allowedOf allowedAt
     nested-fails n = rw (b, n)
 
     module _ (n : nested r level ≡ false) where
-      pub values-fail : {k : ℕ} → firstOf (wrong Values w r d) (length d) ≡ At k → Fails (fault ValueBroken inBatch (at + k)) ≡ contentOf w r d at level
+      pub values-fail : {k : ℕ} → firstOf (wrong Values w r d) (length d) ≡ At k → Fails (fault ValueBroken batchWindow (at + k)) ≡ contentOf w r d at level
       unfolding contentOf wrong wrongAt bitWrong allowedOf allowedAt valueWrong
       values-fail e = rw (b, n, e)
 
       module _ (v : firstOf (wrong Values w r d) (length d) ≡ Nothing) where
-        pub ranges-fail : {k : ℕ} → firstOf (wrong Ranges w r d) (length d) ≡ At k → Fails (fault RangeOutside inBatch (at + k)) ≡ contentOf w r d at level
+        pub ranges-fail : {k : ℕ} → firstOf (wrong Ranges w r d) (length d) ≡ At k → Fails (fault RangeOutside batchWindow (at + k)) ≡ contentOf w r d at level
         unfolding contentOf wrong wrongAt bitWrong allowedOf allowedAt valueWrong rangeWrong accessAt
         ranges-fail e = rw (b, n, v, e)
 
@@ -81,8 +81,8 @@ passes-clear w r d at level e =
 
     by : (b : Found) (n : Bool) (v x : Found) → firstOf (wrong Bits w r d) (length d) ≡ b → nested r level ≡ n → firstOf (wrong Values w r d) (length d) ≡ v
         → firstOf (wrong Ranges w r d) (length d) ≡ x
-        → orElse (refuseFound BitNotAllowed inBatch at b)
-        (orElse (refuseIf n (fault NestedStart inBatch at)) (orElse (refuseFound ValueBroken inBatch at v) (refuseFound RangeOutside inBatch at x)))
+        → orElse (refuseFound BitNotAllowed batchWindow at b)
+        (orElse (refuseIf n (fault NestedStart batchWindow at)) (orElse (refuseFound ValueBroken batchWindow at v) (refuseFound RangeOutside batchWindow at x)))
         ≡ Pass
         → Clear w r d level
     by (At k) n v x eb en ev ex q = absurd (unlike q)
@@ -117,7 +117,7 @@ module _ (c : Capture) (place : ℕ) (p : Pointer) (base : Base) where
   unfolding structuralOf
   unpointed e = rw e
 
-  pub unbased : {kind : Kind} {offset : ℕ} → p ≡ PointsTo kind offset → base ≡ Unset → Fails (fault BaseNeverSet inBatch place) ≡ structuralOf c place p base
+  pub unbased : {kind : Kind} {offset : ℕ} → p ≡ PointsTo kind offset → base ≡ Unset → Fails (fault BaseNeverSet batchWindow place) ≡ structuralOf c place p base
   unfolding structuralOf
   unbased e b = rw (e, b)
 

@@ -18,7 +18,7 @@ use Rattle.rules.specs.declared.Verdict.{Verdict}
 use Rattle.rules.specs.declared.Verdict.the-variants.{Pass, Fails}
 use Rattle.rules.specs.declared.Reason.the-variants.{UnknownHeader, WrongLength, PastTheWindow}
 use Rattle.rules.specs.Words.{firstOf}
-use Rattle.rules.specs.Refusals.{inBatch, fault}
+use Rattle.rules.specs.Refusals.{batchWindow, fault}
 use Rattle.rules.specs.Commands.{lengthOf, lengthRight, rowCount}
 use Rattle.rules.specs.Uses.{accessAt}
 use Rattle.rules.specs.Masks.{allowedOf, allowedAt, bitWrong}
@@ -43,17 +43,17 @@ use Rattle.step.proofs.Ways.{fitted, content, dwords-are, unknown-heade
 
 -- the ways out of the search
 module _ (w : Windows) (batch : List ℕ) (at : ℕ) (level : Level) where
-  pub unknown-look : rowCount ≤ rowAt batch at → Wrong (fault UnknownHeader inBatch at) ≡ lookOf w batch at level
+  pub unknown-look : rowCount ≤ rowAt batch at → Wrong (fault UnknownHeader batchWindow at) ≡ lookOf w batch at level
   unfolding lookOf
   unknown-look h = rw (le-leb _ _ h)
 
   module _ (k : rowAt batch at < rowCount) where
-    pub misfit-look : lengthRight (rowAt batch at) (headerAt batch at) ≡ false → Wrong (fault WrongLength inBatch at) ≡ lookOf w batch at level
+    pub misfit-look : lengthRight (rowAt batch at) (headerAt batch at) ≡ false → Wrong (fault WrongLength batchWindow at) ≡ lookOf w batch at level
     unfolding lookOf
     misfit-look e = rw (lt-leb _ _ k, e)
 
     module _ (r : lengthRight (rowAt batch at) (headerAt batch at) ≡ true) where
-      pub past-look : length batch < at + lengthAt batch at → Wrong (fault PastTheWindow inBatch at) ≡ lookOf w batch at level
+      pub past-look : length batch < at + lengthAt batch at → Wrong (fault PastTheWindow batchWindow at) ≡ lookOf w batch at level
       unfolding lookOf
       past-look h = rw (lt-leb _ _ k, r, lt-ltb _ _ h)
 

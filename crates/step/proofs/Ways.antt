@@ -19,9 +19,9 @@ use Rattle.rules.specs.declared.Outcome.the-variants.{Taken, Refused}
 use Rattle.rules.specs.declared.Verdict.{Verdict}
 use Rattle.rules.specs.declared.Verdict.the-variants.{Pass, Fails}
 use Rattle.rules.specs.declared.Reason.the-variants.{RanOff, UnknownHeader, WrongLength, PastTheWindow}
-use Rattle.rules.specs.Refusals.{inBatch, fault, tried, firstFault}
+use Rattle.rules.specs.Refusals.{batchWindow, fault, tried, firstFault}
 use Rattle.rules.specs.Windows.{Capture, windowsOf}
-use Rattle.rules.specs.Commands.{Length, one, exactly, byBit, groups, rows, theRow, dwordCount, lengthOf, groupSize, rowCount, lengthRight}
+use Rattle.rules.specs.Commands.{Length, noField, exactly, byBit, groups, rows, theRow, dwordCount, lengthOf, groupSize, rowCount, lengthRight}
 use Rattle.rules.specs.Structures.{structureNowhere, structureBit, structureValue, structureChecks}
 use Rattle.rules.specs.Step.{Here, here, headerAt, rowAt, lengthAt, dwordsAt, pointerOf, ofStructure, ranOff, unknownHeader, wrongLength, pastTheWindow, bitNotAllowed, nestedStart, valueBroken, rangeOutside, baseNeverSet, stepChecks, levelNumber, moveOf, commandAt, stepOf}
 use Rattle.rules.proofs.Searching.{or-cases}
@@ -100,7 +100,7 @@ module _ (c : Capture) (s : Cursor) where
       ∙ ap (λ v. orElse v structural) (contents l)
 
   -- 6 to 9
-  off : length (c .batch) ≤ s .at → ranOff h ≡ Fails (fault RanOff inBatch (s .at))
+  off : length (c .batch) ≤ s .at → ranOff h ≡ Fails (fault RanOff batchWindow (s .at))
   unfolding h ranOff
   off l = rw (le-leb _ _ l)
 
@@ -108,7 +108,7 @@ module _ (c : Capture) (s : Cursor) where
   unfolding h ranOff
   on l = rw (lt-leb _ _ l)
 
-  unknown : rowCount ≤ rowAt (c .batch) (s .at) → unknownHeader h ≡ Fails (fault UnknownHeader inBatch (s .at))
+  unknown : rowCount ≤ rowAt (c .batch) (s .at) → unknownHeader h ≡ Fails (fault UnknownHeader batchWindow (s .at))
   unfolding h unknownHeader
   unknown l = rw (le-leb _ _ l)
 
@@ -116,7 +116,7 @@ module _ (c : Capture) (s : Cursor) where
   unfolding h unknownHeader
   known l = rw (lt-leb _ _ l)
 
-  wrong : lengthRight (rowAt (c .batch) (s .at)) (headerAt (c .batch) (s .at)) ≡ false → wrongLength h ≡ Fails (fault WrongLength inBatch (s .at))
+  wrong : lengthRight (rowAt (c .batch) (s .at)) (headerAt (c .batch) (s .at)) ≡ false → wrongLength h ≡ Fails (fault WrongLength batchWindow (s .at))
   unfolding h wrongLength
   wrong e = rw e
 
@@ -124,7 +124,7 @@ module _ (c : Capture) (s : Cursor) where
   unfolding h wrongLength
   right e = rw e
 
-  past : length (c .batch) < s .at + lengthAt (c .batch) (s .at) → pastTheWindow h ≡ Fails (fault PastTheWindow inBatch (s .at))
+  past : length (c .batch) < s .at + lengthAt (c .batch) (s .at) → pastTheWindow h ≡ Fails (fault PastTheWindow batchWindow (s .at))
   unfolding h pastTheWindow
   past l = rw (lt-ltb _ _ l)
 
@@ -133,22 +133,22 @@ module _ (c : Capture) (s : Cursor) where
   whole l = rw (le-ltb _ _ l)
 
   -- the ways out, in their order
-  pub ran-off : length (c .batch) ≤ s .at → Refused (fault RanOff inBatch (s .at)) ≡ stepOf c s
+  pub ran-off : length (c .batch) ≤ s .at → Refused (fault RanOff batchWindow (s .at)) ≡ stepOf c s
   unfolding stepChecks structureChecks h
   ran-off l = sym (refuses c s (first-fails ranOff _ (off l)))
 
   module _ (a : s .at < length (c .batch)) where
-    pub unknown-header : rowCount ≤ rowAt (c .batch) (s .at) → Refused (fault UnknownHeader inBatch (s .at)) ≡ stepOf c s
+    pub unknown-header : rowCount ≤ rowAt (c .batch) (s .at) → Refused (fault UnknownHeader batchWindow (s .at)) ≡ stepOf c s
     unfolding stepChecks structureChecks h
     unknown-header l = sym (refuses c s (first-passes ranOff _ (on a) (first-fails unknownHeader _ (unknown l))))
 
     module _ (k : rowAt (c .batch) (s .at) < rowCount) where
-      pub wrong-length : lengthRight (rowAt (c .batch) (s .at)) (headerAt (c .batch) (s .at)) ≡ false → Refused (fault WrongLength inBatch (s .at)) ≡ stepOf c s
+      pub wrong-length : lengthRight (rowAt (c .batch) (s .at)) (headerAt (c .batch) (s .at)) ≡ false → Refused (fault WrongLength batchWindow (s .at)) ≡ stepOf c s
       unfolding stepChecks structureChecks h
       wrong-length e = sym (refuses c s (first-passes ranOff _ (on a) (first-passes unknownHeader _ (known k) (first-fails wrongLength _ (wrong e)))))
 
       module _ (r : lengthRight (rowAt (c .batch) (s .at)) (headerAt (c .batch) (s .at)) ≡ true) where
-        pub past-the-window : length (c .batch) < s .at + lengthAt (c .batch) (s .at) → Refused (fault PastTheWindow inBatch (s .at)) ≡ stepOf c s
+        pub past-the-window : length (c .batch) < s .at + lengthAt (c .batch) (s .at) → Refused (fault PastTheWindow batchWindow (s .at)) ≡ stepOf c s
         unfolding stepChecks structureChecks h
         past-the-window l =
             sym
@@ -199,14 +199,14 @@ module _ {w : Windows} {batch state : List ℕ} (s : Cursor) {row len : ℕ} (f 
 
 -- a row without groups is one dword long
 isOne : Length → Bool
-isOne one = true
+isOne noField = true
 isOne (exactly f) = false
 isOne (byBit b f g) = false
 isOne (groups n) = false
 
 one-counted : (t : Length) (header : ℕ) → isOne t ≡ true → dwordCount t header ≡ 1
 unfolding isOne
-one-counted one header e = refl
+one-counted noField header e = refl
 one-counted (exactly f) header e = cc
 one-counted (byBit b f g) header e = cc
 one-counted (groups n) header e = cc

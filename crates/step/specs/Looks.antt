@@ -9,7 +9,7 @@ use Rattle.rules.specs.declared.Level.{Level}
 use Rattle.rules.specs.declared.Verdict.{Verdict}
 use Rattle.rules.specs.declared.Verdict.the-variants.{Pass, Fails}
 use Rattle.rules.specs.declared.Reason.the-variants.{UnknownHeader, WrongLength, PastTheWindow}
-use Rattle.rules.specs.Refusals.{inBatch, fault}
+use Rattle.rules.specs.Refusals.{batchWindow, fault}
 use Rattle.rules.specs.Commands.{lengthRight, rowCount}
 use Rattle.rules.specs.Step.{headerAt, rowAt, lengthAt, dwordsAt}
 use Rattle.step.specs.declared.looks.Look.{Look}
@@ -18,9 +18,9 @@ use Rattle.step.specs.Parts.{contentOf}
 
 -- by the tests of 7, 8 and 9 in their order, and what the command's dwords give; the position and the length are those to tell
 abbrev pub lookBy : Bool → Bool → Bool → Verdict → ℕ → ℕ → Look
-lookBy true right past v at n = Wrong (fault UnknownHeader inBatch at)
-lookBy false false past v at n = Wrong (fault WrongLength inBatch at)
-lookBy false true true v at n = Wrong (fault PastTheWindow inBatch at)
+lookBy true right past v at n = Wrong (fault UnknownHeader batchWindow at)
+lookBy false false past v at n = Wrong (fault WrongLength batchWindow at)
+lookBy false true true v at n = Wrong (fault PastTheWindow batchWindow at)
 lookBy false true false Pass at n = Whole n
 lookBy false true false (Fails f) at n = Wrong f
 

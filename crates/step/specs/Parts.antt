@@ -1,5 +1,5 @@
 -- One step in the parts that the code has: what the command's own dwords give (10 to 13), and what its structure gives (14 to 17).
-use Prim.Native.Nat.{ℕ, _*_, _^_, _<_}
+use Prim.Native.Nat.{ℕ, _*_, _^_, _≤_}
 use mathlib.Core.Path.{_≡_}
 use mathlib.Core.List.{List}
 use lib.ListN.{length}
@@ -12,7 +12,7 @@ use Rattle.rules.specs.declared.Verdict.{Verdict}
 use Rattle.rules.specs.declared.Verdict.the-variants.{Pass, Fails}
 use Rattle.rules.specs.declared.Reason.the-variants.{BitNotAllowed, NestedStart, ValueBroken, RangeOutside, BaseNeverSet}
 use Rattle.rules.specs.Words.{firstOf}
-use Rattle.rules.specs.Refusals.{inBatch, fault, refuseIf, refuseFound}
+use Rattle.rules.specs.Refusals.{batchWindow, fault, refuseIf, refuseFound}
 use Rattle.rules.specs.Windows.{Capture}
 use Rattle.rules.specs.Masks.{bitWrong}
 use Rattle.rules.specs.Values.{valueWrong}
@@ -44,17 +44,17 @@ orElse (Fails f) later = Fails f
 -- 10 to 13, of a command's dwords
 unfoldable pub contentOf : Windows → ℕ → List ℕ → ℕ → Level → Verdict
 contentOf w r d at level =
-    orElse (refuseFound BitNotAllowed inBatch at (firstOf (bitWrong r d) (length d)))
-    (orElse (refuseIf (nested r level) (fault NestedStart inBatch at))
-    (orElse (refuseFound ValueBroken inBatch at (firstOf (valueWrong r d) (length d)))
-    (refuseFound RangeOutside inBatch at (firstOf (rangeWrong w r d) (length d)))))
+    orElse (refuseFound BitNotAllowed batchWindow at (firstOf (bitWrong r d) (length d)))
+    (orElse (refuseIf (nested r level) (fault NestedStart batchWindow at))
+    (orElse (refuseFound ValueBroken batchWindow at (firstOf (valueWrong r d) (length d)))
+    (refuseFound RangeOutside batchWindow at (firstOf (rangeWrong w r d) (length d)))))
 
 -- 14 to 17, of the structure that a command points to
 unfoldable pub structuralOf : Capture → ℕ → Pointer → Base → Verdict
 structuralOf c pointer p base =
-    orElse (refuseIf (baseMissing p base) (fault BaseNeverSet inBatch pointer))
+    orElse (refuseIf (baseMissing p base) (fault BaseNeverSet batchWindow pointer))
     (orElse (pointed structureNowhere c pointer p base) (orElse (pointed structureBit c pointer p base) (pointed structureValue c pointer p base)))
 
--- a base that row 9 can set, or none
+-- a base at which a window may lie, 2^48 included, or none
 pub record SmallBase (base : Base) : Type 0 where
-  pub small : (b : ℕ) → base ≡ Set b → b < 2 ^ 48
+  pub small : (b : ℕ) → base ≡ Set b → b ≤ 2 ^ 48

@@ -3,7 +3,7 @@ ghost use mathlib.Core.Path.{_≡_};
 ghost use Prim.Native.Nat.{_+_, _^_, _≤_, _<_};
 ghost use lib.ListN.{length, getD};
 ghost use Rattle.rules.specs.declared.Verdict.the-variants.{Fails};
-ghost use Rattle.rules.specs.Refusals.{fault, inBatch};
+ghost use Rattle.rules.specs.Refusals.{fault, batchWindow};
 ghost use Rattle.rules.specs.Formats.{surfaceFormats};
 ghost use Rattle.rules.specs.Commands.{rowCount, groupSize};
 ghost use Rattle.rules.specs.Structures.{verdictOf};
@@ -30,7 +30,7 @@ use search::first_wrong;
 
 // A fault in the batch, as a verdict.
 fn fails(reason: Reason, index: usize) -> Verdict
-    ensures { λ r. ⌜ r ≡ Fails (fault reason inBatch index) ⌝ }
+    ensures { λ r. ⌜ r ≡ Fails (fault reason batchWindow index) ⌝ }
 {
     Verdict::Fails(in_batch(reason, index))
 }

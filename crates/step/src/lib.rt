@@ -3,7 +3,7 @@ ghost use mathlib.Core.Path.{_≡_};
 ghost use Prim.Native.Nat.{_≤_};
 ghost use lib.ListN.{length};
 ghost use Rattle.rules.specs.declared.Outcome.the-variants.{Refused};
-ghost use Rattle.rules.specs.Refusals.{fault, inBatch};
+ghost use Rattle.rules.specs.Refusals.{fault, batchWindow};
 ghost use Rattle.rules.specs.Formats.{surfaceFormats};
 ghost use Rattle.rules.specs.Step.{stepOf};
 ghost use Rattle.step.specs.Parts.{captured, Fitted, SmallBase};
@@ -27,7 +27,7 @@ pub mod looks;
 
 // A refusal at the header.
 fn refused(reason: Reason, index: usize) -> Outcome
-    ensures { λ r. ⌜ r ≡ Refused (fault reason inBatch index) ⌝ }
+    ensures { λ r. ⌜ r ≡ Refused (fault reason batchWindow index) ⌝ }
 {
     Outcome::Refused(in_batch(reason, index))
 }

@@ -3,7 +3,7 @@ ghost use mathlib.Core.Path.{_≡_};
 ghost use mathlib.Core.Bool.{true};
 ghost use Prim.Native.Nat.{_<_};
 ghost use lib.ListN.{length};
-ghost use Rattle.rules.specs.Refusals.{fault, inBatch};
+ghost use Rattle.rules.specs.Refusals.{fault, batchWindow};
 ghost use Rattle.rules.specs.Formats.{surfaceFormats};
 ghost use Rattle.rules.specs.Step.{rowAt};
 ghost use Rattle.step.specs.declared.looks.Look.the-variants.{Wrong};
@@ -30,7 +30,7 @@ pub enum Look {
 }
 
 fn wrong(reason: Reason, index: usize) -> Look
-    ensures { λ r. ⌜ r ≡ Wrong (fault reason inBatch index) ⌝ }
+    ensures { λ r. ⌜ r ≡ Wrong (fault reason batchWindow index) ⌝ }
 {
     Look::Wrong(in_batch(reason, index))
 }

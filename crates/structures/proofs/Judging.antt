@@ -10,7 +10,7 @@ use Rattle.rules.specs.declared.Reason.the-variants.{StructureNowhere, Structur
 use Rattle.rules.specs.declared.Found.{Found}
 use Rattle.rules.specs.declared.Found.the-variants.{At, Nothing}
 use Rattle.rules.specs.Words.{firstOf}
-use Rattle.rules.specs.Refusals.{inBatch, fault, firstFault}
+use Rattle.rules.specs.Refusals.{batchWindow, fault, firstFault}
 use Rattle.rules.specs.Structures.{Asked, layoutOf, structureBitWrong, structureValueWrong, nowhere, heldWindow, heldFrom}
 use Rattle.rules.specs.Structures.{structureNowhere, structureBit, structureValue, structureChecks}
 use Rattle.rules.proofs.Searching.{first-found}
@@ -32,7 +32,7 @@ module _ (a : Asked) where
   unfolding structureBit
   bit-passes e = rw e
 
-  pub not-held : nowhere (a .held) ≡ true → Fails (fault StructureNowhere inBatch (a .pointer)) ≡ firstFault structureChecks a
+  pub not-held : nowhere (a .held) ≡ true → Fails (fault StructureNowhere batchWindow (a .pointer)) ≡ firstFault structureChecks a
   unfolding structureNowhere structureChecks
   not-held e = fails-first [] structureNowhere _ a tt (rw e)
 

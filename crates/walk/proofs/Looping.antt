@@ -29,7 +29,7 @@ use Rattle.rules.specs.declared.Verdict.{Verdict}
 use Rattle.rules.specs.declared.Verdict.the-variants.{Pass, Fails}
 use Rattle.rules.specs.Words.{bit}
 use Rattle.rules.specs.Refusals.{answerWith}
-use Rattle.rules.specs.Windows.{Capture, windowsOf, lengthsOf, windowFault}
+use Rattle.rules.specs.Windows.{Capture, windowsOf, lengthsOf, windowFault, windowLimit}
 use Rattle.rules.specs.Commands.{baseRow}
 use Rattle.rules.specs.Step.{budget, spentAt, fullAt, newBase, baseAfter, levelNumber, commandAt, stepOf}
 use Rattle.rules.specs.Walk.{Run, ended, then, trace, traceFrom, cut, start, commandsOf, endOf, answerOf}
@@ -205,10 +205,10 @@ tail-written n v l h =
 
 -- the places that are answered fit 32 bits
 module _ {base : Base} {c : Capture} {old new : List ℕ} {n : ℕ} {s : Cursor} (g : Going base c old new n s) where
-  pub small-at : length (c .batch) ≤ 4096 → (0 < 2 ^ 32) × (s .at < 2 ^ 32) × (n < 2 ^ 32)
+  pub small-at : length (c .batch) ≤ windowLimit → (0 < 2 ^ 32) × (s .at < 2 ^ 32) × (n < 2 ^ 32)
   small-at l = let a = g .within .position in let b = g .budgeted in (omega arith, omega arith, omega arith)
 
-  pub small-place : {f : Fault} → length (c .batch) ≤ 4096 → length (c .state) ≤ 4096 → stepOf c s ≡ Refused f → (f .window < 2 ^ 32) × (f .index < 2 ^ 32) × (n < 2 ^ 32)
+  pub small-place : {f : Fault} → length (c .batch) ≤ windowLimit → length (c .state) ≤ windowLimit → stepOf c s ≡ Refused f → (f .window < 2 ^ 32) × (f .index < 2 ^ 32) × (n < 2 ^ 32)
   small-place l m e =
       let b = g .budgeted in
       ⊎-elim (λ q. (omega (arith, q .0), omega (arith, q .1), omega arith)) (λ q. (omega (arith, q .0), omega (arith, q .1), omega arith)) (refusal-place c s (g .within) e)

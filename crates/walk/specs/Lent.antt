@@ -16,8 +16,8 @@ use Rattle.rules.specs.Walk.{traceFrom, cut, start, answerOf}
 use Rattle.rules.specs.Records.{roomOf, writtenOf}
 
 -- the capture that a caller lends: two windows with their addresses, and the third by its numbers
-abbrev pub captureOf : List ℕ → ℕ → List ℕ → ℕ → ℕ → ℕ → Capture
-captureOf batch batchAt state stateAt scratchAt scratchBytes =
+abbrev pub lentCapture : List ℕ → ℕ → List ℕ → ℕ → ℕ → ℕ → Capture
+lentCapture batch batchAt state stateAt scratchAt scratchBytes =
     record { batch = batch; batchAt = batchAt; state = state; stateAt = stateAt; scratchAt = scratchAt; scratchBytes = scratchBytes }
 
 -- the position that a level keeps, or 0 where it keeps none

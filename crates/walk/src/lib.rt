@@ -2,17 +2,17 @@
 ghost use mathlib.Core.Path.{_≡_};
 ghost use Prim.Native.Nat.{_^_, _≤_, _<_};
 ghost use lib.ListN.{length};
-ghost use lib.Dec.{eqb};
 ghost use Rattle.rules.specs.declared.Verdict.the-variants.{Fails};
 ghost use Rattle.rules.specs.Refusals.{answerWith};
 ghost use Rattle.rules.specs.Windows.{windowLimit, windowsOf};
-ghost use Rattle.rules.specs.Step.{budget, spentAt, fullAt, levelNumber};
+ghost use Rattle.rules.specs.Step.{budget, spentAt, fullAt};
 ghost use Rattle.rules.specs.Walk.{start};
 ghost use Rattle.rules.specs.Records.{startingBase, Checked};
 ghost use Rattle.step.specs.Parts.{captured, Fitted, SmallBase};
-ghost use Rattle.walk.specs.Lent.{captureOf, keptAt, stopFor, Ran};
+ghost use Rattle.walk.specs.Lent.{lentCapture, stopFor, Ran};
 use answers::acceptance;
 use answers::refusal;
+use fresh::fresh;
 use records::record_of;
 use records::write_record;
 use rules::After;
@@ -31,6 +31,7 @@ use step::step;
 use table::SURFACE_FORMATS;
 
 pub mod answers;
+mod fresh;
 mod records;
 mod table;
 
@@ -105,59 +106,6 @@ fn stopped(f: Fault, at: usize, n: usize) -> Answer
     refusal(f, n)
 }
 
-fn is_second(level: Level) -> bool
-    ensures { λ r. ⌜ r ≡ eqb (levelNumber level) 1 ⌝ }
-{
-    match level {
-        Level::First => false,
-        Level::Second(_) => true,
-    }
-}
-
-// The position that is kept, or 0 where none is.
-fn kept(level: Level) -> usize
-    ensures { λ r. ⌜ r ≡ keptAt level ⌝ }
-{
-    match level {
-        Level::First => 0,
-        Level::Second(back) => back,
-    }
-}
-
-// By a test, so that the compiler knows the tag for a 0 or a 1, and it can go into a record as it is.
-fn fresh_level(level: Level) -> Level
-    ensures { λ r. ⌜ r ≡ level ⌝ }
-{
-    if is_second(level) {
-        Level::Second(kept(level))
-    } else {
-        Level::First
-    }
-}
-
-fn fresh_base(base: Base) -> Base
-    ensures { λ r. ⌜ r ≡ base ⌝ }
-{
-    match base {
-        Base::Unset => Base::Unset,
-        Base::Set(b) => Base::Set(b),
-    }
-}
-
-// The cursor, made anew from its parts. A copy would carry the bytes between an enum's tag and its number from turn to turn, which costs
-// more than the step itself; made anew, they are never written.
-fn fresh(s: Cursor) -> Cursor
-    ensures { λ r. ⌜ r ≡ s ⌝ }
-{
-    let level = s.level;
-    let base = s.base;
-    Cursor {
-        at: s.at,
-        level: fresh_level(level),
-        base: fresh_base(base),
-    }
-}
-
 // There is no room for the record of the command at the position.
 fn full(at: usize) -> Fault
     ensures { λ r. ⌜ r ≡ fullAt at ⌝ }
@@ -181,7 +129,7 @@ fn windows_of(
     scratch_at: u64,
     scratch_len: u32,
 ) -> Windows
-    ensures { λ r. ⌜ r ≡ windowsOf (captureOf (now (batch .entry)) «batch_at» (now (state .entry)) «state_at» «scratch_at» «scratch_len») ⌝ }
+    ensures { λ r. ⌜ r ≡ windowsOf (lentCapture (now (batch .entry)) «batch_at» (now (state .entry)) «state_at» «scratch_at» «scratch_len») ⌝ }
 {
     Windows {
         batch: windows::lent(batch_at, batch),
@@ -203,7 +151,7 @@ pub fn check<'a>(
     scratch_len: u32,
     records: &mut [u32],
 ) -> Answer
-    ensures { λ r. ⌜ Checked startingBase (captureOf (now (batch .entry)) «batch_at» (now (state .entry)) «state_at» «scratch_at» «scratch_len») (now (records .entry)) r (now (records .exit)) ⌝ }
+    ensures { λ r. ⌜ Checked startingBase (lentCapture (now (batch .entry)) «batch_at» (now (state .entry)) «state_at» «scratch_at» «scratch_len») (now (records .entry)) r (now (records .exit)) ⌝ }
 {
     let w = windows_of(batch, batch_at, state, state_at, scratch_at, scratch_len);
     if let Verdict::Fails(f) = windows::sound(batch.len(), state.len(), w) {

@@ -9,17 +9,17 @@ use Rattle.rules.specs.declared.Verdict.the-variants.{Pass, Fails}
 use Rattle.rules.specs.declared.Reason.{Reason}
 use Rattle.rules.specs.declared.Reason.the-variants.{WrongCounts, AddressUnaligned, EndsTooHigh, WindowsShare}
 use Rattle.rules.specs.Words.{some, someTwo}
-use Rattle.rules.specs.Refusals.{inBatch, fault, refuseIf, tried}
+use Rattle.rules.specs.Refusals.{batchWindow, fault, refuseIf, tried}
 use Rattle.rules.specs.Windows.{Lengths, listed, windowLimit, countsWrong, unaligned, endsTooHigh, shareByte, windowChecks, windowFault}
 use Rattle.rules.proofs.Trying.{stays-failed}
 
 abbrev pub refusal : Reason → Verdict
-refusal reason = Fails (fault reason inBatch 0)
+refusal reason = Fails (fault reason batchWindow 0)
 
 -- a check that refuses under a test, tried before others
 refuses-first : {A : Type 0} (given : Bool) (reason : Reason) (checks : List (A → Verdict)) (a : A) {rest : Verdict}
     → tried checks Pass a ≡ rest
-    → tried checks (refuseIf given (fault reason inBatch 0)) a ≡ cond given (refusal reason) rest
+    → tried checks (refuseIf given (fault reason batchWindow 0)) a ≡ cond given (refusal reason) rest
 refuses-first true reason checks a e = stays-failed checks _ a
 refuses-first false reason checks a e = e
 

@@ -5,24 +5,27 @@ ghost use mathlib.Core.Path.{_≡_};
 ghost use Prim.Native.Nat.{_+_, _≤_};
 ghost use lib.Dec.{ltb};
 ghost use lib.ListN.{length, take, drop};
-ghost use Rattle.rules.specs.declared.Allowed.the-variants.{AnyWindow};
+ghost use Rattle.rules.specs.declared.Within.the-variants.{AnyWindow};
 ghost use Rattle.rules.specs.declared.Verdict.the-variants.{Fails};
 ghost use Rattle.rules.specs.Words.{some, someTwo};
-ghost use Rattle.rules.specs.Refusals.{fault, inBatch};
+ghost use Rattle.rules.specs.Refusals.{fault, batchWindow};
 ghost use Rattle.rules.specs.Windows.{lent, listed, end, windowLimit, countsWrong, unaligned, endsTooHigh, shareByte, windowFault};
 ghost use Rattle.rules.specs.Windows.{fits, holdsDwords, heldAt, partOf};
 ghost use Rattle.rules.specs.Addresses.{accessWrong};
 use rules::Access;
-use rules::Allowed;
 use rules::Held;
 use rules::Reason;
 use rules::Verdict;
 use rules::Window;
 use rules::Windows;
+use rules::Within;
 use rules::faults::in_batch;
 
 // The most dwords that the batch or the state may have.
 const WINDOW_LIMIT: usize = 4096;
+
+// What every window's address is a multiple of.
+const PAGE_BYTES: u64 = 4096;
 
 // The address at or below which every window ends.
 const ADDRESS_LIMIT: u64 = 0x1_0000_0000_0000;
@@ -39,7 +42,7 @@ fn counts_wrong(batch: usize, state: usize) -> bool
 fn unaligned(w: Window) -> bool
     ensures { λ r. ⌜ r ≡ unaligned w ⌝ }
 {
-    w.at % 4096 != 0
+    w.at % PAGE_BYTES != 0
 }
 
 // Whether the address lies below the window's end.
@@ -85,7 +88,7 @@ fn some_share(w: Windows) -> bool
 
 // The refusals that precede the walk have no place of their own.
 fn refused(reason: Reason) -> Verdict
-    ensures { λ r. ⌜ r ≡ Fails (fault reason inBatch 0) ⌝ }
+    ensures { λ r. ⌜ r ≡ Fails (fault reason batchWindow 0) ⌝ }
 {
     Verdict::Fails(in_batch(reason, 0))
 }
@@ -123,13 +126,13 @@ fn anywhere(w: Windows, address: u64, bytes: u64) -> bool
 }
 
 // Whether all the bytes lie in one of the windows that the rule names.
-pub fn fits(w: Windows, allowed: Allowed, address: u64, bytes: u64) -> bool
+pub fn fits(w: Windows, allowed: Within, address: u64, bytes: u64) -> bool
     ensures { λ r. ⌜ r ≡ fits w allowed address bytes ⌝ }
 {
     match allowed {
-        Allowed::BatchOnly => words::holds(w.batch, address, bytes),
-        Allowed::ScratchOnly => words::holds(w.scratch, address, bytes),
-        Allowed::AnyWindow => anywhere(w, address, bytes),
+        Within::BatchOnly => words::holds(w.batch, address, bytes),
+        Within::ScratchOnly => words::holds(w.scratch, address, bytes),
+        Within::AnyWindow => anywhere(w, address, bytes),
     }
 }
 

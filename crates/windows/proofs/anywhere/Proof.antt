@@ -4,20 +4,20 @@ use borrow.Author.Needs.{needs}
 use mathlib.Core.Path.{sym, _∙_}
 use mathlib.Core.Bool.{or-true, or-false}
 use Rattle.rules.specs.Words.{some}
-use Rattle.rules.specs.Windows.{windowsAllowed, fits}
+use Rattle.rules.specs.Windows.{windowsWithin, fits}
 use Rattle.windows.proofs.anywhere.Statement.{statement}
 use Rattle.windows.proofs.anywhere.Tie as tie
 
 returns : tie.Need-returns
-unfolding some windowsAllowed fits
+unfolding some windowsWithin fits
 returns c = simp (sym (c .before .holds .ensures) ∙ c .if1 .taken)
 
 returns-2 : tie.Need-returns-2
-unfolding some windowsAllowed fits
+unfolding some windowsWithin fits
 returns-2 c = simp (sym (c .before .holds2 .ensures) ∙ c .if2 .taken, or-true)
 
 returns-3 : tie.Need-returns-3
-unfolding some windowsAllowed fits
+unfolding some windowsWithin fits
 returns-3 c =
     simp (
       c .holds3 .ensures,

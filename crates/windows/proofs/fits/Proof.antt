@@ -3,16 +3,16 @@
 use borrow.Author.Needs.{needs}
 use mathlib.Core.Bool.{or-false}
 use Rattle.rules.specs.Words.{some}
-use Rattle.rules.specs.Windows.{windowsAllowed, fits}
+use Rattle.rules.specs.Windows.{windowsWithin, fits}
 use Rattle.windows.proofs.fits.Statement.{statement}
 use Rattle.windows.proofs.fits.Tie as tie
 
 returns : tie.Need-returns
-unfolding some windowsAllowed fits
+unfolding some windowsWithin fits
 returns c = simp (c .before .enum-told .given .1, or-false) (c .holds .ensures)
 
 returns-2 : tie.Need-returns-2
-unfolding some windowsAllowed fits
+unfolding some windowsWithin fits
 returns-2 c = simp (c .before .enum-told2 .given .1, or-false) (c .holds2 .ensures)
 
 returns-3 : tie.Need-returns-3

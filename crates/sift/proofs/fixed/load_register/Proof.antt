@@ -6,7 +6,7 @@ use native.Mathlib.Omega.{arith}
 use lib.Dec.{lit≤}
 use borrow.Author.Tests.{not-true, not-false}
 use Rattle.rules.specs.declared.Access.the-variants.{Reaches}
-use Rattle.rules.specs.declared.Allowed.the-variants.{AnyWindow}
+use Rattle.rules.specs.declared.Within.the-variants.{AnyWindow}
 use Rattle.rules.specs.Words.{inGroup}
 use Rattle.rules.specs.Commands.{rows, theRow, groupSize}
 use Rattle.rules.specs.Uses.{usesByRow, accessOf, accessAt}

@@ -1,8 +1,8 @@
--- `walk::is_second` meets its contract.
+-- `walk::fresh::is_second` meets its contract.
 -- Assumes nothing.
 use borrow.Author.Needs.{needs}
-use Rattle.walk.proofs.is_second.Statement.{statement}
-use Rattle.walk.proofs.is_second.Tie as tie
+use Rattle.walk.proofs.fresh.is_second.Statement.{statement}
+use Rattle.walk.proofs.fresh.is_second.Tie as tie
 
 returns : tie.Need-returns
 returns c = rw (c .enum-told .given .1)
