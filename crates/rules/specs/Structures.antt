@@ -31,10 +31,17 @@ unfoldable pub layoutOf : Kind → Layout
 layoutOf Viewport = record { dwords = 2; lead = anyDword; group = anyDword ∷ [] }
 layoutOf ColourCalc = record { dwords = 6; lead = 0xFFFF8001; group = anyDword ∷ [] }
 
+-- "Dword 0 allows ..; dword 1 free": the masks of a structure, that of the leading dword first
+abbrev pub structureMasks : Kind → List ℕ
+structureMasks kind = layoutOf kind .lead ∷ layoutOf kind .group
+
+-- the allowed bits of the dword k, by its place in its group
+unfoldable pub structureMask : Kind → ℕ → ℕ
+structureMask kind k = getD (structureMasks kind) (inGroup (length (layoutOf kind .group)) k) 0
+
 -- 16: "structure bit not allowed"
 unfoldable pub structureBitWrong : Kind → List ℕ → ℕ → Bool
-structureBitWrong kind d k =
-    not (allowed (getD d k 0) (getD (layoutOf kind .lead ∷ layoutOf kind .group) (inGroup (length (layoutOf kind .group)) k) 0))
+structureBitWrong kind d k = not (allowed (getD d k 0) (structureMask kind k))
 
 -- "as single-precision values": a dword as one
 abbrev pub single : ℕ → Float

@@ -1,37 +1,49 @@
--- 16: which dword of a structure has a bit that is not allowed. Only the first dword of a colour state can.
+-- 16: the table of the structures' allowed bits, as the code holds it, and which dword of a structure has a bit that is not allowed.
 -- Assumes nothing.
-use Prim.Native.Nat.{ℕ, _^_, _<_}
-use mathlib.Core.Path.{_≡_, sym, _∙_}
-use mathlib.Core.Bool.{true, false}
-use mathlib.Core.List.{List}
-use native.Mathlib.Nat.{mod-eq-of-lt}
-use borrow.Author.Tests.{eq-eqb}
-use lib.ListN.{getD}
-use lib.Bits.{and-mask}
-use Rattle.rules.specs.declared.Found.the-variants.{At, Nothing}
+use Prim.Native.Nat.{ℕ, _+_, _-_, _%_, _<_}
+use native.Mathlib.Omega.{arith}
+use mathlib.Core.Path.{_≡_, refl, sym, ap, _∙_}
+use mathlib.Core.Bool.{Bool, not}
+use mathlib.Core.List.{List, []}
+use lib.ListN.{length, getD}
+use borrow.Author.Tests.{ne-eqb}
 use Rattle.rules.specs.declared.Kind.{Kind}
 use Rattle.rules.specs.declared.Kind.the-variants.{Viewport, ColourCalc}
-use Rattle.rules.specs.Words.{allowed, firstFrom, firstOf, inGroup}
-use Rattle.rules.specs.Structures.{layoutOf, structureBitWrong}
+use Rattle.rules.specs.Words.{allowed, inGroup}
+use Rattle.rules.specs.Structures.{layoutOf, structureMasks, structureMask, structureBitWrong}
+use Rattle.structures.specs.Table.{kindNumber, structureTable}
 
--- every dword allows all its bits
-free : (w : ℕ) → w < 2 ^ 32 → allowed w 0xFFFFFFFF ≡ true
-unfolding allowed
-free w h = eq-eqb _ _ (and-mask w 32 ∙ mod-eq-of-lt h)
+-- each structure's group has one dword
+group-size : (kind : Kind) → length (layoutOf kind .group) ≡ 1
+unfolding layoutOf
+group-size Viewport = refl
+group-size ColourCalc = refl
 
-module _ (d : List ℕ) (small : (k : ℕ) → getD d k 0 < 2 ^ 32) where
-  any : (k : ℕ) → allowed (getD d k 0) 0xFFFFFFFF ≡ true
-  any k = free (getD d k 0) (small k)
+pub number-small : (kind : Kind) → kindNumber kind < 2
+number-small Viewport = omega arith
+number-small ColourCalc = omega arith
 
-  pub viewport-free : {kind : Kind} → kind ≡ Viewport → Nothing ≡ firstOf (structureBitWrong kind d) (layoutOf kind .dwords)
-  unfolding firstFrom inGroup layoutOf structureBitWrong
-  viewport-free v = rw v (simp any)
+-- a structure's row of the table has its masks
+pub own-masks : (kind : Kind) → getD structureTable (kindNumber kind) [] ≡ structureMasks kind
+unfolding structureTable
+own-masks Viewport = refl
+own-masks ColourCalc = refl
 
-  module _ {kind : Kind} {lead : ℕ} (v : kind ≡ ColourCalc) (l : lead ≡ getD d 0 0) where
-    pub lead-allowed : allowed lead 0xFFFF8001 ≡ true → Nothing ≡ firstOf (structureBitWrong kind d) (layoutOf kind .dwords)
-    unfolding firstFrom inGroup layoutOf structureBitWrong
-    lead-allowed e = rw v (simp (sym l, e, any))
+module _ (kind : Kind) {n : ℕ} (e : n ≡ kindNumber kind) where
+  own : getD structureTable n [] ≡ structureMasks kind
+  own = ap (λ (i : ℕ). getD structureTable i []) e ∙ own-masks kind
 
-    pub lead-wrong : allowed lead 0xFFFF8001 ≡ false → At 0 ≡ firstOf (structureBitWrong kind d) (layoutOf kind .dwords)
-    unfolding firstFrom inGroup layoutOf structureBitWrong
-    lead-wrong e = rw v (simp (sym l, e, any))
+  -- the mask of the leading dword, and of one behind it
+  pub lead-mask : (k : ℕ) → k ≡ 0 → getD (getD structureTable n []) 0 0 ≡ structureMask kind k
+  unfolding structureMask inGroup
+  lead-mask k z = ap (λ (l : List ℕ). getD l 0 0) own ∙ rw z
+
+  pub group-mask : (k : ℕ) → (k ≡ 0 → ⊥) → getD (getD structureTable n []) (1 + (k - 1) % 1) 0 ≡ structureMask kind k
+  unfolding structureMask inGroup
+  group-mask k z = ap (λ (l : List ℕ). getD l (1 + (k - 1) % 1) 0) own ∙ rw (ne-eqb k 0 z, group-size kind)
+
+-- what the code finds of a dword
+pub bit-at : (kind : Kind) (d : List ℕ) (k : ℕ) {w mask : ℕ} {v : Bool} → w ≡ getD d k 0 → mask ≡ structureMask kind k → v ≡ allowed w mask
+    → structureBitWrong kind d k ≡ not v
+unfolding structureBitWrong
+bit-at kind d k {w} {mask} {v} p q e = let h : allowed (getD d k 0) (structureMask kind k) ≡ v = rw (← p, ← q) (sym e) in ap not h

@@ -8,7 +8,8 @@ ghost use lib.ListN.{getD};
 ghost use Rattle.rules.specs.declared.Found.the-variants.{Nothing};
 ghost use Rattle.rules.specs.Words.{firstOf};
 ghost use Rattle.rules.specs.Refusals.{fault, firstFault};
-ghost use Rattle.rules.specs.Structures.{layoutOf, structureBitWrong, structureValueWrong, depthWrong, colourWrong, single, isNan, atMost};
+ghost use Rattle.structures.specs.Table.{kindNumber};
+ghost use Rattle.rules.specs.Structures.{layoutOf, structureMask, structureBitWrong, structureValueWrong, depthWrong, colourWrong, single, isNan, atMost};
 ghost use Rattle.rules.specs.Structures.{nowhere, heldWindow, heldFrom, structureChecks, valuesOf, StructureRead};
 use rules::Fault;
 use rules::Found;
@@ -17,12 +18,21 @@ use rules::Kind;
 use rules::Reading;
 use rules::Reason;
 use rules::Verdict;
+use rules::faults::in_batch;
 
 // The sign of a value, the highest of its bits.
 const SIGN: u32 = 0x8000_0000;
 
-// The bits that the first dword of a colour state allows. Every other dword of a structure is free.
-const COLOUR_BITS: u32 = 0xFFFF_8001;
+// How many dwords the group has that follows a structure's leading dword.
+const GROUP: usize = 1;
+
+// The table of allowed bits: a structure's number by a dword's number in it, that of the leading dword first, then those of the group.
+const STRUCTURE_MASKS: [[u32; GROUP + 1]; 2] = [
+    // CC_VIEWPORT
+    [0xFFFF_FFFF, 0xFFFF_FFFF],
+    // COLOR_CALC_STATE
+    [0xFFFF_8001, 0xFFFF_FFFF],
+];
 
 fn dwords_of(kind: Kind) -> usize
     ensures { λ r. ⌜ r ≡ layoutOf kind .dwords ⌝ }
@@ -41,7 +51,7 @@ fn dword(d: &[u32], k: usize) -> u32
 }
 
 // Whether the bits are a NaN's: without the sign they are above an infinity's.
-pub fn is_nan(bits: u32) -> bool
+fn is_nan(bits: u32) -> bool
     ensures { λ r. ⌜ r ≡ isNan bits ⌝ }
 {
     bits & 0x7FFF_FFFF > 0x7F80_0000
@@ -55,20 +65,41 @@ fn value(d: &[u32], k: usize) -> f32
     f32::from_bits(dword(d, k))
 }
 
+// A structure's number in the table of allowed bits.
+fn number_of(kind: Kind) -> usize
+    ensures { λ r. ⌜ r ≡ kindNumber kind ⌝ }
+{
+    match kind {
+        Kind::Viewport => 0,
+        Kind::ColourCalc => 1,
+    }
+}
+
+// The bits that dword k of a structure may have.
+fn mask_at(kind: Kind, k: usize) -> u32
+    ensures { λ r. ⌜ r ≡ structureMask kind k ⌝ }
+{
+    let masks = STRUCTURE_MASKS;
+    let own = &masks[number_of(kind)];
+    if k == 0 {
+        return own[0];
+    }
+    own[1 + (k - 1) % GROUP]
+}
+
 // The first dword with a bit that is not allowed.
 fn first_bit(kind: Kind, d: &[u32]) -> Found
     ensures { λ r. ⌜ r ≡ firstOf (structureBitWrong kind (now (d .entry))) (layoutOf kind .dwords) ⌝ }
 {
-    match kind {
-        Kind::Viewport => Found::Nothing,
-        Kind::ColourCalc => {
-            if words::allowed(dword(d, 0), COLOUR_BITS) {
-                Found::Nothing
-            } else {
-                Found::At(0)
-            }
+    let n = dwords_of(kind);
+    let mut k = 0;
+    while k < n {
+        if !words::allowed(dword(d, k), mask_at(kind, k)) {
+            return Found::At(k);
         }
+        k += 1;
     }
+    Found::Nothing
 }
 
 // The place of a value among all that are no NaN, by its bits: both zeros have the middle one, and a magnitude counts up from
@@ -188,11 +219,7 @@ fn judged(kind: Kind, held: Held, d: &[u32], pointer: usize) -> Verdict
         ⌝ }
 {
     if is_nowhere(held) {
-        return Verdict::Fails(Fault {
-            reason: Reason::StructureNowhere,
-            window: 0,
-            index: pointer,
-        });
+        return Verdict::Fails(in_batch(Reason::StructureNowhere, pointer));
     }
     if let Found::At(k) = first_bit(kind, d) {
         return Verdict::Fails(fault_at(Reason::StructureBit, held, k));

@@ -1,12 +1,15 @@
 -- A search for the first of the numbers below n, by a loop that has come to k.
 -- Assumes nothing.
 use Prim.Native.Nat.{ℕ, suc, _+_, _-_, _≤_, _<_}
-use mathlib.Core.Path.{_≡_}
+use mathlib.Core.Path.{_≡_, ap}
 use mathlib.Core.Bool.{Bool, true, false}
 use native.Mathlib.Omega.{arith}
 use Rattle.rules.specs.declared.Found.the-variants.{At, Nothing}
-use Rattle.rules.specs.Words.{firstFrom}
+use Rattle.rules.specs.Words.{firstFrom, firstOf}
 use Rattle.rules.proofs.Searching.{search-passes, search-stops}
+
+pub from-the-start : (bad : ℕ → Bool) (n : ℕ) → firstOf bad n ≡ firstFrom bad 0 (n - 0)
+from-the-start bad n = ap (firstFrom bad 0) (omega arith)
 
 module _ (bad : ℕ → Bool) (n k : ℕ) where
   pub goes-on : k < n → bad k ≡ false → firstFrom bad k (n - k) ≡ firstFrom bad (k + 1) (n - (k + 1))

@@ -7,7 +7,7 @@ use Rattle.structures.proofs.judged.Statement.{statement}
 use Rattle.structures.proofs.judged.Tie as tie
 
 returns : tie.Need-returns
-returns c = not-held _ (sym (c .before .is-nowhere .ensures) ∙ c .if1 .taken)
+returns c = rw (c .in-batch .ensures) (not-held _ (sym (c .before .before .is-nowhere .ensures) ∙ c .before .if1 .taken))
 
 fault-at-requires : tie.Need-fault-at-requires
 fault-at-requires c κs =
@@ -45,5 +45,5 @@ returns-4 c =
 pub judged-spec : {M : Type 1} → statement M
 judged-spec =
     tie.close
-    (tie.spec (λ c κs. search needs) returns (λ c κs. search needs) (λ c. search needs) fault-at-requires returns-2 (λ c. search needs)
+    (tie.spec (λ c κs. search needs) (λ c κs. search needs) returns (λ c κs. search needs) (λ c. search needs) fault-at-requires returns-2 (λ c. search needs)
     (λ c κs. search needs) (λ c. search needs) fault-at-requires-2 returns-3 (λ c. search needs) returns-4)
