@@ -102,7 +102,8 @@ heavier a b l =
       | inr m ↦ lt-of-lt-of-le (ends-below (a / step) (a % step) (omega arith)) (starts-above (a / step) (b / step) (b % step) m)
     ]
 
--- ---- finite values of such weights, each the fraction m * 2 ^ e of 1, and weight / unit of it too
+-- ---- finite values m * 2 ^ e that are weight / unit are in the order of their weights. The library compares them over the product of both
+-- divisors, so each as its weight times that product
 module _ (s t : Bool) (m n a b unit : ℕ) (e d : ℤ) (some : 0 < unit) where
   finite-order : m * up e * unit ≡ weight a * down e → n * up d * unit ≡ weight b * down d
       → le (fin s m e) (fin t n d) ≡ signed s a t b

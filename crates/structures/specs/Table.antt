@@ -1,15 +1,14 @@
--- The table of the structures' allowed bits, as the code holds it: which row of it is whose.
+-- The search over a structure's dwords, by the masks that are lent to it.
 use Prim.Native.Nat.{ℕ}
-use mathlib.Core.List.{List, [], _∷_}
-use Rattle.rules.specs.declared.Kind.{Kind}
-use Rattle.rules.specs.declared.Kind.the-variants.{Viewport, ColourCalc}
-use Rattle.rules.specs.Structures.{structureMasks}
+use mathlib.Core.Bool.{Bool, not}
+use mathlib.Core.List.{List}
+use lib.ListN.{getD}
+use Rattle.rules.specs.Words.{allowed, inGroup}
 
--- a structure's number in the table
-abbrev pub kindNumber : Kind → ℕ
-kindNumber Viewport = 0
-kindNumber ColourCalc = 1
+-- how many dwords the group has that follows a structure's leading dword
+abbrev pub groupDwords : ℕ
+groupDwords = 1
 
--- the masks of each, by its number
-unfoldable pub structureTable : List (List ℕ)
-structureTable = structureMasks Viewport ∷ structureMasks ColourCalc ∷ []
+-- the dword k has a bit that the masks, one of the leading dword and those of the group, do not allow
+unfoldable pub outside : List ℕ → List ℕ → ℕ → Bool
+outside masks d k = not (allowed (getD d k 0) (getD masks (inGroup groupDwords k) 0))

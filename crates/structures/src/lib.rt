@@ -6,10 +6,10 @@ ghost use Prim.Native.Nat.{_+_, _-_, _^_, _<_};
 ghost use lib.Dec.{leb};
 ghost use lib.ListN.{getD};
 ghost use Rattle.rules.specs.declared.Found.the-variants.{Nothing};
-ghost use Rattle.rules.specs.Words.{firstOf};
+ghost use Rattle.rules.specs.Words.{firstOf, inGroup};
 ghost use Rattle.rules.specs.Refusals.{fault, firstFault};
-ghost use Rattle.structures.specs.Table.{kindNumber};
-ghost use Rattle.rules.specs.Structures.{layoutOf, structureMask, structureBitWrong, structureValueWrong, depthWrong, colourWrong, single, isNan, atMost};
+ghost use Rattle.structures.specs.Table.{groupDwords, outside};
+ghost use Rattle.rules.specs.Structures.{layoutOf, structureBitWrong, structureValueWrong, depthWrong, colourWrong, single, isNan, atMost};
 ghost use Rattle.rules.specs.Structures.{nowhere, heldWindow, heldFrom, structureChecks, valuesOf, StructureRead};
 use rules::Fault;
 use rules::Found;
@@ -65,41 +65,39 @@ fn value(d: &[u32], k: usize) -> f32
     f32::from_bits(dword(d, k))
 }
 
-// A structure's number in the table of allowed bits.
-fn number_of(kind: Kind) -> usize
-    ensures { λ r. ⌜ r ≡ kindNumber kind ⌝ }
+// Which of a structure's masks is that of its dword k.
+fn in_group(k: usize) -> usize
+    ensures { λ r. ⌜ (r ≡ inGroup groupDwords k) × (r < 2) ⌝ }
 {
-    match kind {
-        Kind::Viewport => 0,
-        Kind::ColourCalc => 1,
-    }
-}
-
-// The bits that dword k of a structure may have.
-fn mask_at(kind: Kind, k: usize) -> u32
-    ensures { λ r. ⌜ r ≡ structureMask kind k ⌝ }
-{
-    let masks = STRUCTURE_MASKS;
-    let own = &masks[number_of(kind)];
     if k == 0 {
-        return own[0];
+        return 0;
     }
-    own[1 + (k - 1) % GROUP]
+    1 + (k - 1) % GROUP
 }
 
-// The first dword with a bit that is not allowed.
-fn first_bit(kind: Kind, d: &[u32]) -> Found
-    ensures { λ r. ⌜ r ≡ firstOf (structureBitWrong kind (now (d .entry))) (layoutOf kind .dwords) ⌝ }
+// The first of n dwords with a bit that these masks do not allow.
+fn first_outside(masks: &[u32; GROUP + 1], d: &[u32], n: usize) -> Found
+    ensures { λ r. ⌜ r ≡ firstOf (outside (now (masks .entry)) (now (d .entry))) n ⌝ }
 {
-    let n = dwords_of(kind);
     let mut k = 0;
     while k < n {
-        if !words::allowed(dword(d, k), mask_at(kind, k)) {
+        if !words::allowed(dword(d, k), masks[in_group(k)]) {
             return Found::At(k);
         }
         k += 1;
     }
     Found::Nothing
+}
+
+// The first dword with a bit that is not allowed. Each structure has its own call, so that, compiled, what is free is not looked at.
+fn first_bit(kind: Kind, d: &[u32]) -> Found
+    ensures { λ r. ⌜ r ≡ firstOf (structureBitWrong kind (now (d .entry))) (layoutOf kind .dwords) ⌝ }
+{
+    let masks = STRUCTURE_MASKS;
+    match kind {
+        Kind::Viewport => first_outside(&masks[0], d, dwords_of(Kind::Viewport)),
+        Kind::ColourCalc => first_outside(&masks[1], d, dwords_of(Kind::ColourCalc)),
+    }
 }
 
 // The place of a value among all that are no NaN, by its bits: both zeros have the middle one, and a magnitude counts up from

@@ -1,46 +1,22 @@
--- `structures::first_bit` meets its contract: what is left of the search has the answer of the whole.
+-- `structures::first_bit` meets its contract: each row of the table has its structure's masks.
 -- Assumes nothing.
-use Prim.Native.Nat.{_-_, _≤_}
-use mathlib.Core.Path.{_≡_, sym, _∙_}
-use mathlib.Core.Bool.{not}
+use mathlib.Core.Path.{_∙_}
+use Rattle.rules.specs.Structures.{layoutOf, structureMask, structureBitWrong}
+use Rattle.structures.specs.Table.{outside}
 use borrow.Author.Needs.{needs}
-use denote.Ref.{now}
-use Rattle.rules.specs.Words.{firstFrom, firstOf}
-use Rattle.rules.specs.Structures.{layoutOf, structureBitWrong}
-use Rattle.words.proofs.Loops.{from-the-start, goes-on, stops-here, comes-to-the-end}
-use Rattle.structures.proofs.BitRules.{bit-at}
 use Rattle.structures.proofs.first_bit.Statement.{statement}
 use Rattle.structures.proofs.first_bit.Tie as tie
 
-abbrev Inv-loop : tie.InvT-loop
-Inv-loop kind d n k₀ k = (k ≤ n) × (firstOf (structureBitWrong kind d) (layoutOf kind .dwords) ≡ firstFrom (structureBitWrong kind d) k (n - k))
+viewport : tie.Need-returns
+unfolding layoutOf structureMask structureBitWrong outside
+viewport c = rw (c .before .before .before .enum-told .given .1, ← c .before .dwords-of .ensures) (c .first-outside .ensures)
 
-abbrev μ-loop : tie.MeasureT-loop
-μ-loop kind d n k₀ k = n - k
-
-loop-holds : tie.Need-loop-holds Inv-loop μ-loop
-loop-holds c = (search needs, rw (← c .dwords-of .ensures) (from-the-start _ _))
-
-seen : (c : tie.After-allowed Inv-loop μ-loop)
-    → let l = c .before .before .before .before in
-    structureBitWrong (l .before .before .before .args .kind) (now (l .before .before .before .args .d)) (l .loop .k) ≡ not (c .allowed .result)
-seen c = bit-at _ _ _ (c .before .before .dword .ensures) (c .before .mask-at .ensures) (c .allowed .ensures)
-
-returns : tie.Need-returns Inv-loop μ-loop
-returns c =
-    let l = c .before .before .before .before .before in
-    sym (l .loop .inv .1 ∙ stops-here _ _ _ (search needs) (seen (c .before) ∙ c .if1 .taken))
-
-loop-again : tie.Need-loop-again Inv-loop μ-loop
-loop-again c =
-    let l = c .before .before .before .before .before in
-    (search needs, l .loop .inv .1 ∙ goes-on _ _ _ (search needs) (seen (c .before) ∙ c .if1 .left))
-
-returns-2 : tie.Need-returns-2 Inv-loop μ-loop
-returns-2 c = sym (c .before .loop .inv .1 ∙ comes-to-the-end _ _ _ (search needs))
+colour : tie.Need-returns-2
+unfolding layoutOf structureMask structureBitWrong outside
+colour c = rw (c .before .before .before .enum-told2 .given .1, ← c .before .dwords-of2 .ensures) (c .first-outside2 .ensures)
 
 pub first-bit-spec : {M : Type 1} → statement M
 first-bit-spec =
     tie.close
-    (tie.spec Inv-loop μ-loop (λ c κs. search needs) loop-holds (λ c κs. search needs) (λ c κs. search needs) (λ c κs. search needs) returns
-    (λ c. search needs) (λ c. search needs) loop-again returns-2)
+    (tie.spec (λ c. search needs) (λ c. search needs) (λ c κs. search needs) (λ c κs. search needs) (λ c. search needs) (λ c. search needs)
+    (λ c κs. search needs) (λ c κs. search needs) viewport colour)

@@ -1,0 +1,20 @@
+-- `structures::in_group` meets its contract: the leading dword is the first, and the group behind it has one.
+-- Assumes nothing.
+use mathlib.Core.Path.{_≡_, sym}
+use native.Mathlib.Omega.{arith}
+use borrow.Author.Tests.{ne-eqb}
+use Rattle.rules.specs.Words.{inGroup}
+use borrow.Author.Needs.{needs}
+use Rattle.structures.proofs.in_group.Statement.{statement}
+use Rattle.structures.proofs.in_group.Tie as tie
+
+leading : tie.Need-returns
+unfolding inGroup
+leading c = (rw (c .if1 .taken), omega arith)
+
+behind : tie.Need-returns-2
+unfolding inGroup
+behind c = (rw (ne-eqb _ 0 (c .if1 .left)), omega arith)
+
+pub in-group-spec : {M : Type 1} → statement M
+in-group-spec = tie.close (tie.spec leading (λ c. search needs) (λ c. search needs) behind)
