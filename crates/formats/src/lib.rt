@@ -7,7 +7,7 @@ ghost use Rattle.rules.specs.Formats.{between, knownTopology, knownRegister};
 
 // The entry of the table of surface formats for a code; 0 past its end. The table is lent: a constant that is named here would be
 // copied for each code.
-pub fn format_bits(table: &[u16; 512], code: usize) -> u16
+fn format_bits(table: &[u16; 512], code: usize) -> u16
     ensures { λ r. ⌜ r ≡ getD (now (table .entry)) code 0 ⌝ }
 {
     // As a slice: of a slice, unlike an array, the check knows that it is as long as its contents.

@@ -126,7 +126,7 @@ fn anywhere(w: Windows, address: u64, bytes: u64) -> bool
 }
 
 // Whether all the bytes lie in one of the windows that the rule names.
-pub fn fits(w: Windows, allowed: Within, address: u64, bytes: u64) -> bool
+fn fits(w: Windows, allowed: Within, address: u64, bytes: u64) -> bool
     ensures { λ r. ⌜ r ≡ fits w allowed address bytes ⌝ }
 {
     match allowed {
@@ -158,7 +158,7 @@ fn holds_dwords(w: Window, address: u64, n: usize) -> bool
 }
 
 // Which of the two lent windows holds n dwords at the address, and at which of its dwords they start. The batch is asked first.
-pub fn held(batch: Window, state: Window, address: u64, n: usize) -> Held
+fn held(batch: Window, state: Window, address: u64, n: usize) -> Held
     ensures { λ r. ⌜ r ≡ heldAt batch state address n ⌝ }
 {
     if holds_dwords(batch, address, n) {
