@@ -1,5 +1,5 @@
--- The longest run there is: 255 calls of a second-level batch of 255 MI_NOOPs and its end, then the end of the first-level batch, the
--- 65,536th command. It is accepted.
+-- The longest run there is: 255 calls of a second-level batch of 255 MI_NOOPs and its end, then the end of the first-level batch,
+-- the 65,536th command. It is accepted.
 -- Assumes nothing.
 use Prim.Native.Nat.{ℕ, zero, suc, _+_, _*_, _≤_, _<_}
 use native.Mathlib.Nat.{add-zero}
@@ -24,7 +24,8 @@ use Rattle.rules.specs.declared.Verdict.the-variants.{Pass, Fails}
 use Rattle.rules.specs.Refusals.{batchWindow, fault, numberOf, answerWith}
 use Rattle.rules.specs.Windows.{Capture, lengthsOf, windowFault}
 use Rattle.rules.specs.Step.{budget, cursor, stepOf}
-use Rattle.rules.specs.Walk.{Run, ended, then, trace, traceFrom, cut, start, walk, Leads, stays, onward, commandsOf, endOf, answerOf}
+use Rattle.rules.specs.Walk.{Run, ended, then, trace, traceFrom, cut, start, walk, Leads, stays, onward, commandsOf, endOf}
+use Rattle.rules.specs.Walk.{answerOf}
 use Rattle.rules.specs.Cases.{caseCapture}
 use Rattle.rules.specs.Book.{book}
 use Rattle.rules.proofs.Searching.{and-left, and-right, never-both}
@@ -134,7 +135,8 @@ is-call (Taken k (To t)) at e =
     let u = no-base (t .base) (and-right (sameLevel (t .level) (at + 3)) _ m) in
     λ i. Taken (p i) (To (record { at = q i; level = r i; base = u i }))
 
-call-step : (i : ℕ) → i < 255 → stepOf longest (cursor (3 * i) First Unset) ≡ Taken (callAt (3 * i)) (To (cursor 766 (Second (3 * i + 3)) Unset))
+call-step : (i : ℕ) → i < 255
+    → stepOf longest (cursor (3 * i) First Unset) ≡ Taken (callAt (3 * i)) (To (cursor 766 (Second (3 * i + 3)) Unset))
 call-step i h = is-call _ (3 * i) (at-each (λ k. isCall (stepOf longest (cursor (3 * k) First Unset)) (3 * k)) 255 calls-tested i h)
 
 -- the commands of n calls; shut, so that nobody writes them out
@@ -194,7 +196,8 @@ whole more =
     ∙ cut-follows (outer 255) (suc more) (then lastCommand (ended Pass))
 
 -- ACCEPTED, with 65,536 commands
-pub answers : (more : ℕ) → answerOf (walk Unset longest (budget + more)) ≡ record { reason = 0; window = 0; index = 0; count = 65536 }
+pub answers : (more : ℕ)
+    → answerOf (walk Unset longest (budget + more)) ≡ record { reason = 0; window = 0; index = 0; count = 65536 }
 unfolding answerOf answerWith commandsOf endOf
 answers more =
     ap answerOf (whole more)

@@ -1,4 +1,5 @@
--- A batch that jumps back to its own start (C6, with room for more records than the budget): number 5, after exactly 65,536 commands.
+-- A batch that jumps back to its own start (C6, with room for more records than the budget): number 5, after exactly 65,536
+-- commands.
 -- Assumes nothing.
 use Prim.Native.Nat.{ℕ, zero, suc, _+_, _≤_}
 use native.Mathlib.Nat.{add-zero}
@@ -59,25 +60,29 @@ words-counted : (n : ℕ) → length (turnWords n) ≡ n
 unfolding turnWords
 words-counted n = length-replicate n 0x02030000
 
--- a run with a budget of n and room for more
-spends : (n more : ℕ) → cut (n + more) (traceFrom n looping (start Unset)) ≡ follow (turns n) (ended (Fails (fault BudgetSpent batchWindow 0)))
+-- a run with a budget of n and room for more is stopped by the budget
+abbrev spent : Run
+spent = ended (Fails (fault BudgetSpent batchWindow 0))
+
+spends : (n more : ℕ) → cut (n + more) (traceFrom n looping (start Unset)) ≡ follow (turns n) spent
 unfolding trace cut
 spends n more =
     ap (λ (m : ℕ). cut (n + more) (traceFrom m looping (start Unset))) (sym (add-zero n))
     ∙ ap (λ (m : ℕ). cut (n + more) (traceFrom (m + 0) looping (start Unset))) (sym (counted n))
     ∙ ap (cut (n + more)) (trace-follows looping 0 (leads n))
-    ∙ ap (λ (m : ℕ). cut (m + more) (follow (turns n) (ended (Fails (fault BudgetSpent batchWindow 0))))) (sym (counted n))
+    ∙ ap (λ (m : ℕ). cut (m + more) (follow (turns n) spent)) (sym (counted n))
     ∙ cut-follows (turns n) more _
 
 sound : windowFault (lengthsOf looping) ≡ Pass
 unfolding book
 sound = refl
 
-whole : (more : ℕ) → walk Unset looping (budget + more) ≡ follow (turns budget) (ended (Fails (fault BudgetSpent batchWindow 0)))
+whole : (more : ℕ) → walk Unset looping (budget + more) ≡ follow (turns budget) spent
 whole more = walk-sound Unset looping (budget + more) sound ∙ spends budget more
 
 -- NUMBER 5: at the next position, 0, after 65,536 commands
-pub answers : (more : ℕ) → answerOf (walk Unset looping (budget + more)) ≡ record { reason = 5; window = 0; index = 0; count = 65536 }
+pub answers : (more : ℕ)
+    → answerOf (walk Unset looping (budget + more)) ≡ record { reason = 5; window = 0; index = 0; count = 65536 }
 unfolding answerOf answerWith commandsOf endOf numberOf
 answers more =
     ap answerOf (whole more)

@@ -39,7 +39,8 @@ module _ {file : List ℕ} {from n : ℕ} {old : List ℕ} where
         rest = rw (e, next, add-one i) (rw (left, add-one i) at (f .rest));
       }
 
-  pub fill-ends : {new : List ℕ} {i : ℕ} → Filling file from n old new i → n ≤ i → n ≤ length old → new ≡ filled (dwordsFrom file from n) old
+  pub fill-ends : {new : List ℕ} {i : ℕ} → Filling file from n old new i → n ≤ i → n ≤ length old
+      → new ≡ filled (dwordsFrom file from n) old
   unfolding dwordsFrom
   fill-ends {new} {i} f h room =
       let none : n - i ≡ 0 = omega arith in

@@ -11,18 +11,27 @@ use Rattle.rules.specs.declared.Opened.{Opened}
 use Rattle.rules.specs.declared.Opened.the-variants.{Holds, NotRead}
 use Rattle.rules.specs.declared.Reason.{Reason}
 use Rattle.rules.specs.Refusals.{told}
+use Rattle.rules.specs.Windows.{Capture}
 use Rattle.rules.specs.Walk.{answerOf, commandsOf, endOf}
 use Rattle.rules.specs.Records.{Checked, wordsOf, writtenOf}
 use Rattle.rules.specs.File.{trailerOf, fileCapture, openedVerdict, openedTold, fileRun, FileRead, Judged}
 use Rattle.walk.specs.Lent.{lentCapture}
 use Rattle.capture.proofs.Reading.{held, parts}
 
+-- the capture that the buffers hold, by what the file told of itself and the room that the third window has
+abbrev heldCapture : Contents → List ℕ → List ℕ → ℕ → Capture
+heldCapture contents batch state scratch =
+    lentCapture (take (contents .batch .count) batch) (contents .batch .at) (take (contents .state .count) state)
+    (contents .state .at) (contents .scratch .at) scratch
+
 module _ {file batch state newBatch newState : List ℕ} where
   -- what `read` promised of its answer, once the answer is known
-  pub known : {opened opened′ : Opened} → FileRead file batch state opened newBatch newState → opened ≡ opened′ → FileRead file batch state opened′ newBatch newState
+  pub known : {opened opened′ : Opened} → FileRead file batch state opened newBatch newState → opened ≡ opened′
+      → FileRead file batch state opened′ newBatch newState
   known f e = rw e at f
 
-  pub not-read : {base : Base} {records : List ℕ} {reason : Reason} {answer : Answer} → FileRead file batch state (NotRead reason) newBatch newState → answer ≡ openedTold (NotRead reason) .answer
+  pub not-read : {base : Base} {records : List ℕ} {reason : Reason} {answer : Answer}
+      → FileRead file batch state (NotRead reason) newBatch newState → answer ≡ openedTold (NotRead reason) .answer
       → Judged base file batch state records answer newBatch newState records
   unfolding fileRun openedVerdict told answerOf endOf commandsOf writtenOf wordsOf
   not-read f e = record {
@@ -34,8 +43,7 @@ module _ {file batch state newBatch newState : List ℕ} where
 
   -- the words that were checked are the capture that the file holds
   same-capture : {contents : Contents} → FileRead file batch state (Holds contents) newBatch newState
-      → lentCapture (take (contents .batch .count) newBatch) (contents .batch .at) (take (contents .state .count) newState) (contents .state .at)
-      (contents .scratch .at) (contents .scratch .bytes) ≡ fileCapture file
+      → heldCapture contents newBatch newState (contents .scratch .bytes) ≡ fileCapture file
   unfolding fileCapture
   same-capture f =
       let p = parts f in
@@ -44,8 +52,8 @@ module _ {file batch state newBatch newState : List ℕ} where
 
   pub read-and-checked : {base : Base} {records newRecords : List ℕ} {contents : Contents} {answer : Answer} {scratch : ℕ}
       → FileRead file batch state (Holds contents) newBatch newState → scratch ≡ trailerOf file .scratchBytes
-      → Checked base (lentCapture (take (contents .batch .count) newBatch) (contents .batch .at) (take (contents .state .count) newState) (contents .state .at)
-      (contents .scratch .at) scratch) records answer newRecords → Judged base file batch state records answer newBatch newState newRecords
+      → Checked base (heldCapture contents newBatch newState scratch) records answer newRecords
+      → Judged base file batch state records answer newBatch newState newRecords
   unfolding fileRun openedVerdict
   read-and-checked f e k =
       let h = held file (length batch) (length state) (sym (f .answers)) in

@@ -16,16 +16,19 @@ use Rattle.rules.specs.declared.Fault.{Fault}
 use Rattle.rules.specs.declared.Verdict.{Verdict}
 use Rattle.rules.specs.declared.Verdict.the-variants.{Pass, Fails}
 use Rattle.rules.specs.Refusals.{batchWindow, fault, tried, firstFault}
-use Rattle.rules.specs.File.{offer, Offer, trailerOf, contentsOf, fileChecks, distanceWrong, fileCountsWrong, bufferShort, openedBy, openedOf}
+use Rattle.rules.specs.File.{offer, Offer, trailerOf, contentsOf, fileChecks, distanceWrong, fileCountsWrong, bufferShort, openedBy}
+use Rattle.rules.specs.File.{openedOf}
 use Rattle.rules.proofs.Trying.{no-fault, stays-failed}
 use Rattle.capture.specs.Offers.{alone}
 
 -- a list of checks is tried in order: first its head, then the next where one passes, and none behind a fault
-first : (check : Offer → Verdict) (checks : List (Offer → Verdict)) (o : Offer) → firstFault (check ∷ checks) o ≡ tried checks (check o) o
+first : (check : Offer → Verdict) (checks : List (Offer → Verdict)) (o : Offer)
+    → firstFault (check ∷ checks) o ≡ tried checks (check o) o
 unfolding tried
 first check checks o = refl
 
-next : (check : Offer → Verdict) (checks : List (Offer → Verdict)) (o : Offer) {said : Verdict} → said ≡ Pass → tried (check ∷ checks) said o ≡ tried checks (check o) o
+next : (check : Offer → Verdict) (checks : List (Offer → Verdict)) (o : Offer) {said : Verdict} → said ≡ Pass
+    → tried (check ∷ checks) said o ≡ tried checks (check o) o
 unfolding tried
 next check checks o e = rw e
 
@@ -37,7 +40,8 @@ size-right : (n : ℕ) → 40 ≤ n → n ≤ 32808 → (ltb n 40 || ltb 32808 n
 size-right n least most = simp (le-ltb _ _ least, le-ltb _ _ most)
 
 module _ (file : List ℕ) (b s : ℕ) where
-  refused : {reason : Reason} → firstFault fileChecks (offer file b s) ≡ Fails (fault reason batchWindow 0) → NotRead reason ≡ openedOf file b s
+  refused : {reason : Reason} → firstFault fileChecks (offer file b s) ≡ Fails (fault reason batchWindow 0)
+      → NotRead reason ≡ openedOf file b s
   unfolding openedOf
   refused e = sym (ap (λ (v : Verdict). openedBy v (trailerOf file)) e)
 
@@ -47,23 +51,28 @@ module _ (file : List ℕ) (b s : ℕ) where
 
   pub too-large : 32808 < length file → NotRead FileSize ≡ openedOf file b s
   unfolding fileChecks
-  too-large h = let least : 40 ≤ length file = omega arith in refused (first _ _ _ ∙ last _ _ (simp (le-ltb _ _ least, lt-ltb _ _ h)))
+  too-large h =
+      let least : 40 ≤ length file = omega arith in
+      refused (first _ _ _ ∙ last _ _ (simp (le-ltb _ _ least, lt-ltb _ _ h)))
 
   module _ (least : 40 ≤ length file) (most : length file ≤ 32808) where
     pub wrong-distance : distanceWrong (alone file) ≡ true → NotRead FileDistance ≡ openedOf file b s
     unfolding fileChecks
     wrong-distance d = refused (first _ _ _ ∙ next _ _ _ (rw (size-right _ least most)) ∙ last _ _ (rw d))
 
-    pub wrong-counts : distanceWrong (alone file) ≡ false → fileCountsWrong (alone file) ≡ true → NotRead WrongCounts ≡ openedOf file b s
+    pub wrong-counts : distanceWrong (alone file) ≡ false → fileCountsWrong (alone file) ≡ true
+        → NotRead WrongCounts ≡ openedOf file b s
     unfolding fileChecks
     wrong-counts d n = refused (first _ _ _ ∙ next _ _ _ (rw (size-right _ least most)) ∙ next _ _ _ (rw d) ∙ last _ _ (rw n))
 
     pub no-room : distanceWrong (alone file) ≡ false → fileCountsWrong (alone file) ≡ false → bufferShort (offer file b s) ≡ true
         → NotRead BufferShort ≡ openedOf file b s
     unfolding fileChecks
-    no-room d n r = refused (first _ _ _ ∙ next _ _ _ (rw (size-right _ least most)) ∙ next _ _ _ (rw d) ∙ next _ _ _ (rw n) ∙ last _ _ (rw r))
+    no-room d n r =
+        refused (first _ _ _ ∙ next _ _ _ (rw (size-right _ least most)) ∙ next _ _ _ (rw d) ∙ next _ _ _ (rw n) ∙ last _ _ (rw r))
 
-    pub all-right : {contents : Contents} → distanceWrong (alone file) ≡ false → fileCountsWrong (alone file) ≡ false → bufferShort (offer file b s) ≡ false
+    pub all-right : {contents : Contents} → distanceWrong (alone file) ≡ false → fileCountsWrong (alone file) ≡ false
+        → bufferShort (offer file b s) ≡ false
         → contents ≡ contentsOf (trailerOf file) → Holds contents ≡ openedOf file b s
     unfolding openedOf fileChecks
     all-right d n r e = rw (e, no-fault (offer file b s) fileChecks (rw (size-right _ least most), (rw d, (rw n, (rw r, tt)))))

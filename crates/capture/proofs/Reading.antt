@@ -27,7 +27,8 @@ use Rattle.capture.proofs.Filling.{length-dwords}
 same-contents : {c d : Contents} → Holds c ≡ Holds d → c ≡ d
 same-contents e = cc
 
-opened-passes : (v : Verdict) (t : Trailer) {contents : Contents} → openedBy v t ≡ Holds contents → (v ≡ Pass) × (contentsOf t ≡ contents)
+opened-passes : (v : Verdict) (t : Trailer) {contents : Contents} → openedBy v t ≡ Holds contents
+    → (v ≡ Pass) × (contentsOf t ≡ contents)
 opened-passes Pass t e = (refl, same-contents e)
 opened-passes (Fails f) t e = let z : _≡_ {A = ℕ} 0 1 = cc in absurd (omega arith)
 
@@ -50,7 +51,8 @@ right-distance file e =
     (eqb-true _ _ (and-left told due both), eqb-true _ _ (and-right told due both))
 
 -- and buffers with room hold the counts
-right-room : (file : List ℕ) (b s : ℕ) → bufferShort (offer file b s) ≡ false → (trailerOf file .batchCount ≤ b) × (trailerOf file .stateCount ≤ s)
+right-room : (file : List ℕ) (b s : ℕ) → bufferShort (offer file b s) ≡ false
+    → (trailerOf file .batchCount ≤ b) × (trailerOf file .stateCount ≤ s)
 right-room file b s e =
     let first = ltb b (trailerOf file .batchCount) in
     let second = ltb s (trailerOf file .stateCount) in
@@ -73,7 +75,8 @@ held file b s e =
 
 -- the promise of `read`: of a file that is refused, and of one whose dwords are filled in
 module _ {file batch state : List ℕ} where
-  pub left-alone : {reason : Reason} → openedOf file (length batch) (length state) ≡ NotRead reason → FileRead file batch state (NotRead reason) batch state
+  pub left-alone : {reason : Reason} → openedOf file (length batch) (length state) ≡ NotRead reason
+      → FileRead file batch state (NotRead reason) batch state
   unfolding filledBy
   left-alone e = record { answers = sym e; tells = rw (← e) (opened-told file _ _); batchFilled = rw e; stateFilled = rw e }
 

@@ -20,7 +20,8 @@ sets-append l i (x ∷ xs) ys =
     rw e (sets-append (set l i x) (suc i) xs ys)
 
 -- two parts, the second at the place behind the first, are one
-pub then : {at m n k r : ℕ} {xs ys old mid new : List ℕ} → Put at m xs old k mid → Put k n ys mid r new → Put at (m + n) (xs ++ ys) old r new
+pub then : {at m n k r : ℕ} {xs ys old mid new : List ℕ} → Put at m xs old k mid → Put k n ys mid r new
+    → Put at (m + n) (xs ++ ys) old r new
 then {at} {xs = xs} {ys = ys} {old = old} p q = record {
   short = simp length-append (omega (arith, p .short, q .short));
   ends = simp length-append (omega (arith, p .ends, q .ends));
@@ -74,7 +75,8 @@ module _ {at : ℕ} {old : List ℕ} where
   only-digit zero n some l p = absurd (some refl)
   only-digit (suc more) n some l p = simp (lt-ltb n 10 l) (at-most (omega arith) p)
 
-  pub last-digit : (most n : ℕ) {k r : ℕ} {mid new : List ℕ} → (most ≡ 0 → ⊥) → 10 ≤ n → Put at (most - 1) (digitsOf (most - 1) (n / 10)) old k mid
+  pub last-digit : (most n : ℕ) {k r : ℕ} {mid new : List ℕ} → (most ≡ 0 → ⊥) → 10 ≤ n
+      → Put at (most - 1) (digitsOf (most - 1) (n / 10)) old k mid
       → Put k 1 ((48 + n % 10) ∷ []) mid r new → Put at most (digitsOf most n) old r new
   unfolding digitsOf
   last-digit zero n some l p q = absurd (some refl)

@@ -9,8 +9,10 @@ use Rattle.lines.specs.Lines.{Line}
 use Rattle.lines.proofs.Unique.{one-line}
 
 module _ {old new new′ : List ℕ} {r r′ : ℕ} where
-  pub answer-line-unique : (answer : Answer) → Line (answerLine answer) old r new → Line (answerLine answer) old r′ new′ → (r ≡ r′) × (new ≡ new′)
+  pub answer-line-unique : (answer : Answer) → Line (answerLine answer) old r new → Line (answerLine answer) old r′ new′
+      → (r ≡ r′) × (new ≡ new′)
   answer-line-unique answer = one-line
 
-  pub record-line-unique : (word : ℕ) → Line (recordLine word) old r new → Line (recordLine word) old r′ new′ → (r ≡ r′) × (new ≡ new′)
+  pub record-line-unique : (word : ℕ) → Line (recordLine word) old r new → Line (recordLine word) old r′ new′
+      → (r ≡ r′) × (new ≡ new′)
   record-line-unique word = one-line

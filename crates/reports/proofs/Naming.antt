@@ -33,11 +33,13 @@ module _ {old : List ℕ} where
   pub starts : Plaining old old 0
   starts = record { within = omega arith; same = refl; done = refl }
 
-  pub goes-on : {new : List ℕ} {i byte : ℕ} → Plaining old new i → i < length new → byte ≡ shown (getD new i 0) → Plaining old (set new i byte) (i + 1)
+  pub goes-on : {new : List ℕ} {i byte : ℕ} → Plaining old new i → i < length new → byte ≡ shown (getD new i 0)
+      → Plaining old (set new i byte) (i + 1)
   goes-on {new} {i} {byte} p h e =
       let l : i < length old = omega (arith, p .same) in
       let front : length (map shown (take i old)) ≡ i = length-map (take i old) shown ∙ length-take-le i old (omega arith) in
-      let split : new ≡ map shown (take i old) ++ getD old i 0 ∷ drop (suc i) old = p .done ∙ ap (λ r. map shown (take i old) ++ r) (drop-cons old i 0 l) in
+      let split : new ≡ map shown (take i old) ++ getD old i 0 ∷ drop (suc i) old =
+      p .done ∙ ap (λ r. map shown (take i old) ++ r) (drop-cons old i 0 l) in
       let read : getD new i 0 ≡ getD old i 0 =
       ap (λ l. getD l i 0) split
       ∙ ap (λ k. getD (map shown (take i old) ++ getD old i 0 ∷ drop (suc i) old) k 0) (sym front)

@@ -13,7 +13,8 @@ module _ {at : ℕ} {old : List ℕ} where
   unfolding hexDigits
   no-digit count n e = rw e nothing
 
-  pub last-digit : (count n : ℕ) {digit k r : ℕ} {mid new : List ℕ} → (count ≡ 0 → ⊥) → Put at (count - 1) (hexDigits (count - 1) (n / 16)) old k mid
+  pub last-digit : (count n : ℕ) {digit k r : ℕ} {mid new : List ℕ} → (count ≡ 0 → ⊥)
+      → Put at (count - 1) (hexDigits (count - 1) (n / 16)) old k mid
       → digit ≡ hexDigit (n % 16) → Put k 1 (digit ∷ []) mid r new → Put at count (hexDigits count n) old r new
   unfolding hexDigits
   last-digit zero n some p d q = absurd (some refl)

@@ -1,4 +1,5 @@
--- The words of a row, from its end: a space goes, and the first byte that is none stays with all before it. And the table of reasons, row by row.
+-- The words of a row, from its end: a space goes, and the first byte that is none stays with all before it. And the table of
+-- reasons, row by row.
 -- Assumes nothing.
 use Prim.Native.Nat.{ℕ, suc, _-_, _≤_, _<_}
 use native.Mathlib.Omega.{arith}
@@ -77,7 +78,9 @@ rows-say = refl
 pub row-says : (reason : ℕ) → trimmed (getD reasonRows reason []) ≡ reasonWords reason
 unfolding trimmed reasonWords
 row-says reason =
-    sym (List·getD-map trimmed reasonRows reason []) ∙ ap (λ (words : List (List ℕ)). getD words reason []) rows-say ∙ List·getD-map bytes reasonTable reason ""
+    sym (List·getD-map trimmed reasonRows reason [])
+    ∙ ap (λ (words : List (List ℕ)). getD words reason []) rows-say
+    ∙ List·getD-map bytes reasonTable reason ""
 
 pub past-the-table : (reason : ℕ) → 22 ≤ reason → [] ≡ reasonWords reason
 unfolding reasonTable reasonWords

@@ -10,14 +10,18 @@ use Rattle.sentences.specs.declared.Unread.{Unread}
 use Rattle.sentences.specs.Lines.{acceptedLine, refusedLine, unreadLine, totalsLine}
 
 module _ {old new new′ : List ℕ} {r r′ : ℕ} where
-  pub accepted-line-unique : (name : List ℕ) (count : ℕ) → Line (acceptedLine name count) old r new → Line (acceptedLine name count) old r′ new′ → (r ≡ r′) × (new ≡ new′)
+  pub accepted-line-unique : (name : List ℕ) (count : ℕ) → Line (acceptedLine name count) old r new
+      → Line (acceptedLine name count) old r′ new′ → (r ≡ r′) × (new ≡ new′)
   accepted-line-unique name count = one-line
 
-  pub refused-line-unique : (name : List ℕ) (answer : Answer) (dword : ℕ) → Line (refusedLine name answer dword) old r new → Line (refusedLine name answer dword) old r′ new′ → (r ≡ r′) × (new ≡ new′)
+  pub refused-line-unique : (name : List ℕ) (answer : Answer) (dword : ℕ) → Line (refusedLine name answer dword) old r new
+      → Line (refusedLine name answer dword) old r′ new′ → (r ≡ r′) × (new ≡ new′)
   refused-line-unique name answer dword = one-line
 
-  pub unread-line-unique : (name : List ℕ) (why : Unread) → Line (unreadLine name why) old r new → Line (unreadLine name why) old r′ new′ → (r ≡ r′) × (new ≡ new′)
+  pub unread-line-unique : (name : List ℕ) (why : Unread) → Line (unreadLine name why) old r new
+      → Line (unreadLine name why) old r′ new′ → (r ≡ r′) × (new ≡ new′)
   unread-line-unique name why = one-line
 
-  pub totals-line-unique : (accepted refused unread : ℕ) → Line (totalsLine accepted refused unread) old r new → Line (totalsLine accepted refused unread) old r′ new′ → (r ≡ r′) × (new ≡ new′)
+  pub totals-line-unique : (accepted refused unread : ℕ) → Line (totalsLine accepted refused unread) old r new
+      → Line (totalsLine accepted refused unread) old r′ new′ → (r ≡ r′) × (new ≡ new′)
   totals-line-unique accepted refused unread = one-line

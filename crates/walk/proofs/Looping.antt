@@ -40,7 +40,8 @@ use Rattle.rules.proofs.Running.{follow, commands-follow, end-follows}
 use Rattle.rules.proofs.Stepping.{took}
 use Rattle.rules.proofs.Walking.{walk-sound, walk-unsound}
 use Rattle.rules.proofs.Places.{refusal-place}
-use Rattle.rules.proofs.Moving.{Within, Way, ends, returns, jumps, calls, goes-on, taken-way, same-cursor, ends-nowhere, stays-within, starts-within}
+use Rattle.rules.proofs.Moving.{Within, Way, ends, returns, jumps, calls, goes-on, taken-way, same-cursor, ends-nowhere}
+use Rattle.rules.proofs.Moving.{stays-within, starts-within}
 use Rattle.step.specs.Parts.{captured, Fitted, SmallBase}
 use Rattle.walk.specs.Lent.{keptAt, stopFor, Ran}
 
@@ -63,7 +64,8 @@ follow-join [] ls r = refl
 follow-join (k ∷ ks) ls r = ap (then k) (follow-join ks ls r)
 
 -- nothing more to give: the promise
-pub ran : {base : Base} {c : Capture} {old new : List ℕ} {n : ℕ} {v : Verdict} → SoFar base c old new n (ended v) → Ran base c old (answerWith v n) new
+pub ran : {base : Base} {c : Capture} {old new : List ℕ} {n : ℕ} {v : Verdict} → SoFar base c old new n (ended v)
+    → Ran base c old (answerWith v n) new
 unfolding answerOf writtenOf commandsOf endOf
 ran {old = old} {n = n} {v = v} s = record {
   answers = rw (s .gives, end-follows (s .done) (ended v), commands-follow (s .done) (ended v), append-nil, s .count);
@@ -71,8 +73,8 @@ ran {old = old} {n = n} {v = v} s = record {
 }
 
 -- one command more is done, and its record written
-pub wrote : {base : Base} {c : Capture} {old new : List ℕ} {n : ℕ} {k : Command} {r : Run} → SoFar base c old new n (then k r) → n < length old
-    → SoFar base c old (set new n (recordOf k)) (n + 1) r
+pub wrote : {base : Base} {c : Capture} {old new : List ℕ} {n : ℕ} {k : Command} {r : Run} → SoFar base c old new n (then k r)
+    → n < length old → SoFar base c old (set new n (recordOf k)) (n + 1) r
 unfolding wordsOf follow
 wrote {old = old} {new = new} {n = n} {k = k} {r = r} s h = record {
   done = s .done ++ (k ∷ []);
@@ -114,7 +116,8 @@ base-small r d {base} s = by (eqb r baseRow && bit (getD d 6 0) 0)
     by true = record { small = λ b e. omega (arith, same e, new-base-small d) }
     by false = s
 
-small-next : (c : Capture) (s : Cursor) {k : Command} {t : Cursor} → SmallBase (s .base) → stepOf c s ≡ Taken k (To t) → SmallBase (t .base)
+small-next : (c : Capture) (s : Cursor) {k : Command} {t : Cursor} → SmallBase (s .base) → stepOf c s ≡ Taken k (To t)
+    → SmallBase (t .base)
 small-next c s {k} {t} m e = by (To t) refl (taken-way c s e)
   where
     by : (a : After) → a ≡ To t → Way c s a → SmallBase (t .base)
@@ -131,14 +134,22 @@ begun base c old m = record {
   small = m;
   within = starts-within c base;
   same = refl;
-  so-far = record { done = []; count = refl; room = omega arith; held = refl; gives = ap (λ (k : ℕ). cut k (traceFrom budget c (start base))) (sym (sub-zero (length old))) };
+  so-far = record {
+    done = [];
+    count = refl;
+    room = omega arith;
+    held = refl;
+    gives = ap (λ (k : ℕ). cut k (traceFrom budget c (start base))) (sym (sub-zero (length old)));
+  };
 }
 
-pub started : {base : Base} {s : Cursor} (c : Capture) (old : List ℕ) → s ≡ start base → SmallBase base → Going (s .base) c old old 0 s
+pub started : {base : Base} {s : Cursor} (c : Capture) (old : List ℕ) → s ≡ start base → SmallBase base
+    → Going (s .base) c old old 0 s
 started {base} c old e m = rw e (begun base c old m)
 
 -- what is shown from the cursor's own base is shown from the base it was given
-pub from-start : {base : Base} {s : Cursor} {c : Capture} {old new : List ℕ} {r : Answer} → s ≡ start base → Ran (s .base) c old r new → Ran base c old r new
+pub from-start : {base : Base} {s : Cursor} {c : Capture} {old new : List ℕ} {r : Answer} → s ≡ start base
+    → Ran (s .base) c old r new → Ran base c old r new
 from-start {base} {s} {c} {old} {new} {r} e x = subst (λ (b : Base). Ran b c old r new) (ap (λ (t : Cursor). t .base) e) x
 
 -- what each way out of a turn, and the turn itself, makes of it
@@ -151,23 +162,29 @@ module _ {base : Base} {c : Capture} {old new : List ℕ} {n : ℕ} {s : Cursor}
   unfolding trace cut
   refused h e = ran (rw (left 65536 n h, e) at (g .so-far))
 
-  no-room : {k : Command} (a : After) → n < 65536 → length new ≤ n → stepOf c s ≡ Taken k a → SoFar base c old new n (ended (Fails (fullAt (k .index))))
+  no-room : {k : Command} (a : After) → n < 65536 → length new ≤ n → stepOf c s ≡ Taken k a
+      → SoFar base c old new n (ended (Fails (fullAt (k .index))))
   unfolding trace cut
-  no-room Ends h l e = let z : length old ≤ n = omega (arith, g .same) in rw (left 65536 n h, none-left (length old) n z, e) at (g .so-far)
-  no-room (To t) h l e = let z : length old ≤ n = omega (arith, g .same) in rw (left 65536 n h, none-left (length old) n z, e) at (g .so-far)
+  no-room Ends h l e = rw (left 65536 n h, none-left (length old) n (omega (arith, g .same)), e) at (g .so-far)
+  no-room (To t) h l e = rw (left 65536 n h, none-left (length old) n (omega (arith, g .same)), e) at (g .so-far)
 
   index-is : {k : Command} {a : After} → stepOf c s ≡ Taken k a → k .index ≡ s .at
   unfolding commandAt
   index-is e = ap (λ (k : Command). k .index) (took c s e .command)
 
-  pub full : {k : Command} {a : After} → n < 65536 → length new ≤ n → stepOf c s ≡ Taken k a → Ran base c old (answerWith (Fails (fullAt (s .at))) n) new
+  pub full : {k : Command} {a : After} → n < 65536 → length new ≤ n → stepOf c s ≡ Taken k a
+      → Ran base c old (answerWith (Fails (fullAt (s .at))) n) new
   full {a = a} h l e = rw (← index-is e) (ran (no-room a h l e))
 
-  pub last : {k : Command} → n < 65536 → n < length new → stepOf c s ≡ Taken k Ends → Ran base c old (answerWith Pass (n + 1)) (set new n (recordOf k))
+  pub last : {k : Command} → n < 65536 → n < length new → stepOf c s ≡ Taken k Ends
+      → Ran base c old (answerWith Pass (n + 1)) (set new n (recordOf k))
   unfolding trace cut
-  last h l e = let z : n < length old = omega (arith, g .same) in ran (wrote (rw (left 65536 n h, left (length old) n z, e) at (g .so-far)) z)
+  last h l e =
+      let z : n < length old = omega (arith, g .same) in
+      ran (wrote (rw (left 65536 n h, left (length old) n z, e) at (g .so-far)) z)
 
-  pub next : {k : Command} {t : Cursor} → n < 65536 → n < length new → stepOf c s ≡ Taken k (To t) → Going base c old (set new n (recordOf k)) (n + 1) t
+  pub next : {k : Command} {t : Cursor} → n < 65536 → n < length new → stepOf c s ≡ Taken k (To t)
+      → Going base c old (set new n (recordOf k)) (n + 1) t
   unfolding trace cut
   next h l e = let z : n < length old = omega (arith, g .same) in record {
     budgeted = omega arith;
@@ -177,13 +194,13 @@ module _ {base : Base} {c : Capture} {old new : List ℕ} {n : ℕ} {s : Cursor}
     so-far = wrote (rw (left 65536 n h, left (length old) n z, e) at (g .so-far)) z;
   }
 
--- a command that is not taken stops the run: for the budget, where that is spent, and else for its own fault
-module _ {base : Base} {c : Capture} {old new : List ℕ} {n : ℕ} {s : Cursor} (g : Going base c old new n s) where
-  pub stops : (f : Fault) → (n < 65536 → Ran base c old (answerWith (Fails f) n) new) → Ran base c old (answerWith (Fails (stopFor f (s .at) n)) n) new
+  -- a command that is not taken stops the run: for the budget, where that is spent, and else for its own fault
+  pub stops : (f : Fault) → (n < 65536 → Ran base c old (answerWith (Fails f) n) new)
+      → Ran base c old (answerWith (Fails (stopFor f (s .at) n)) n) new
   stops f h = by (eqb n 65536) refl
     where
       by : (t : Bool) → eqb n 65536 ≡ t → Ran base c old (answerWith (Fails (cond t (spentAt (s .at)) f)) n) new
-      by true e = out-of-budget g (omega (arith, eqb-true n 65536 e))
+      by true e = out-of-budget (omega (arith, eqb-true n 65536 e))
       by false e = h (let m = eqb-false n 65536 e in omega (arith, g .budgeted))
 
 -- the room for records is what the buffer has, or the budget
@@ -198,7 +215,8 @@ module _ {base : Base} {c : Capture} {old new : List ℕ} {n : ℕ} {s : Cursor}
       (omega (arith, m .1), omega (arith, m .0, g .same), z)
 
 -- a write to the first word of the tail from n on is a write at n
-pub tail-written : (n v : ℕ) (l : List ℕ) → n < length l → putMid n (length l - n) l (set (midOf n (length l - n) l) 0 v) ≡ set l n v
+pub tail-written : (n v : ℕ) (l : List ℕ) → n < length l
+    → putMid n (length l - n) l (set (midOf n (length l - n) l) 0 v) ≡ set l n v
 tail-written n v l h =
     let z : 0 < length (midOf n (length l - n) l) = simp (mid-len n (length l) l (omega arith)) (omega arith) in
     rw (set-mid-at n (length l - n) 0 l v z, add-zero)
@@ -208,20 +226,25 @@ module _ {base : Base} {c : Capture} {old new : List ℕ} {n : ℕ} {s : Cursor}
   pub small-at : length (c .batch) ≤ windowLimit → (0 < 2 ^ 32) × (s .at < 2 ^ 32) × (n < 2 ^ 32)
   small-at l = let a = g .within .position in let b = g .budgeted in (omega arith, omega arith, omega arith)
 
-  pub small-place : {f : Fault} → length (c .batch) ≤ windowLimit → length (c .state) ≤ windowLimit → stepOf c s ≡ Refused f → (f .window < 2 ^ 32) × (f .index < 2 ^ 32) × (n < 2 ^ 32)
+  pub small-place : {f : Fault} → length (c .batch) ≤ windowLimit → length (c .state) ≤ windowLimit → stepOf c s ≡ Refused f
+      → (f .window < 2 ^ 32) × (f .index < 2 ^ 32) × (n < 2 ^ 32)
   small-place l m e =
       let b = g .budgeted in
-      ⊎-elim (λ q. (omega (arith, q .0), omega (arith, q .1), omega arith)) (λ q. (omega (arith, q .0), omega (arith, q .1), omega arith)) (refusal-place c s (g .within) e)
+      ⊎-elim (λ q. (omega (arith, q .0), omega (arith, q .1), omega arith))
+      (λ q. (omega (arith, q .0), omega (arith, q .1), omega arith))
+      (refusal-place c s (g .within) e)
 
 -- behind the checks 1 to 4: the promise of the public call
-pub unsound : (c : Capture) (old : List ℕ) {f : Fault} → windowFault (lengthsOf c) ≡ Fails f → Checked Unset c old (answerWith (Fails f) 0) old
+pub unsound : (c : Capture) (old : List ℕ) {f : Fault} → windowFault (lengthsOf c) ≡ Fails f
+    → Checked Unset c old (answerWith (Fails f) 0) old
 unfolding answerOf writtenOf commandsOf endOf wordsOf
 unsound c old e = record {
   answers = rw (walk-unsound Unset c (roomOf (length old)) e);
   written = rw (walk-unsound Unset c (roomOf (length old)) e);
 }
 
-pub sound : (c : Capture) (old : List ℕ) {r : Answer} {new : List ℕ} → windowFault (lengthsOf c) ≡ Pass → Ran Unset c old r new → Checked Unset c old r new
+pub sound : (c : Capture) (old : List ℕ) {r : Answer} {new : List ℕ} → windowFault (lengthsOf c) ≡ Pass → Ran Unset c old r new
+    → Checked Unset c old r new
 sound c old e p = record {
   answers = rw (walk-sound Unset c (roomOf (length old)) e) (p .answers);
   written = rw (walk-sound Unset c (roomOf (length old)) e) (p .written);
@@ -239,9 +262,11 @@ captured-is c e = rw e
 pub no-base : SmallBase Unset
 no-base = record { small = λ b e. absurd (let z : _≡_ {A = ℕ} 0 1 = cc in omega arith) }
 
-pub judged : (c : Capture) {w : Windows} {v : Verdict} → w ≡ windowsOf c → v ≡ windowFault (record { batch = length (c .batch); state = length (c .state); windows = w })
+pub judged : (c : Capture) {w : Windows} {v : Verdict} → w ≡ windowsOf c
+    → v ≡ windowFault (record { batch = length (c .batch); state = length (c .state); windows = w })
     → windowFault (lengthsOf c) ≡ v
-judged c e p = ap (λ (w : Windows). windowFault (record { batch = length (c .batch); state = length (c .state); windows = w })) (sym e) ∙ sym p
+judged c e p =
+    ap (λ (w : Windows). windowFault (record { batch = length (c .batch); state = length (c .state); windows = w })) (sym e) ∙ sym p
 
 -- a level, put together from whether it is the second, and what it keeps
 pub same-second : (l : Level) → eqb (levelNumber l) 1 ≡ true → Second (keptAt l) ≡ l

@@ -2,12 +2,13 @@
 -- Assumes nothing.
 use native.Mathlib.Omega.{arith}
 use mathlib.Core.Path.{sym}
+use lib.ListN.{length}
 use lib.Seq.{length-take-le}
 use borrow.Author.Needs.{needs}
 use denote.Ref.{now}
 use Rattle.rules.specs.declared.Opened.the-variants.{Holds}
 use Rattle.rules.specs.File.{FileRead, trailerOf}
-use Rattle.capture.proofs.Reading.{held}
+use Rattle.capture.proofs.Reading.{Held, held}
 use Rattle.capture.proofs.Judging.{known, not-read, read-and-checked}
 use Rattle.capture.proofs.judge.Statement.{statement}
 use Rattle.capture.proofs.judge.Tie as tie
@@ -19,60 +20,21 @@ abbrev start : tie.After-read → tie.Start
 start c = c .before .before .before .before .before .before .before
 
 -- what `read` promised, in the arm that goes on
-was-read : (c : tie.After-contents)
-    → FileRead (now (start (called c) .args .file)) (now (start (called c) .args .batch)) (now (start (called c) .args .state)) (Holds (c .contents .given .0 .0))
-    (called c .read .last .1 .0) (called c .read .last .1 .1 .0)
+was-read : (c : tie.After-contents) → (let a = start (called c) .args in
+    FileRead (now (a .file)) (now (a .batch)) (now (a .state)) (Holds (c .contents .given .0 .0))
+    (called c .read .last .1 .0) (called c .read .last .1 .1 .0))
 was-read c = known (called c .read .ensures) (c .contents .given .1)
 
-read-requires : tie.Need-read-requires
-read-requires c κs = search needs
-
-enum-known-reason : tie.Need-enum-known-reason
-enum-known-reason c = search needs
-
-refusal-requires : tie.Need-refusal-requires
-refusal-requires c κs = search needs
-
-enum-known-contents : tie.Need-enum-known-contents
-enum-known-contents c = search needs
-
-trailer-word-requires : tie.Need-trailer-word-requires
-trailer-word-requires c κs = let h = held _ _ _ (sym (was-read (c .before) .answers)) in (omega arith, search needs)
-
-slice-reshare-prefix-check : tie.Need-slice-reshare-prefix-check
-slice-reshare-prefix-check c = let h = held _ _ _ (sym (was-read (c .before .before) .answers)) in omega arith
-
-slice-aggregate-check : tie.Need-slice-aggregate-check
-slice-aggregate-check c = let h = held _ _ _ (sym (was-read (c .before .before .before) .answers)) in sym (length-take-le _ _ (omega arith))
-
-slice-reshare-prefix-check-2 : tie.Need-slice-reshare-prefix-check-2
-slice-reshare-prefix-check-2 c = let h = held _ _ _ (sym (was-read (c .before .before .before) .answers)) in omega arith
-
-slice-aggregate-check-2 : tie.Need-slice-aggregate-check-2
-slice-aggregate-check-2 c = let h = held _ _ _ (sym (was-read (c .before .before .before .before) .answers)) in sym (length-take-le _ _ (omega arith))
-
-check-requires : tie.Need-check-requires
-check-requires c κs = search needs
-
-same-length : tie.Need-same-length
-same-length c = search needs
-
-same-length-2 : tie.Need-same-length-2
-same-length-2 c = search needs
+-- and what the file has shown by it
+shown : (c : tie.After-contents) → (let a = start (called c) .args in
+    Held (now (a .file)) (length (now (a .batch))) (length (now (a .state))) (c .contents .given .0 .0))
+shown c = held _ _ _ (sym (was-read c .answers))
 
 returns : tie.Need-returns
 returns c =
     let reason = c .before .before in
-    not-read (known (reason .before .before .before .before .before .before .read .ensures) (reason .reason .given .1)) (c .refusal .ensures)
-
-same-length-3 : tie.Need-same-length-3
-same-length-3 c = search needs
-
-same-length-4 : tie.Need-same-length-4
-same-length-4 c = search needs
-
-same-length-5 : tie.Need-same-length-5
-same-length-5 c = search needs
+    let read = reason .before .before .before .before .before .before in
+    not-read (known (read .read .ensures) (reason .reason .given .1)) (c .refusal .ensures)
 
 returns-2 : tie.Need-returns-2
 unfolding trailerOf
@@ -84,21 +46,11 @@ returns-2 c =
 pub judge-spec : {M : Type 1} → statement M
 judge-spec =
     tie.close
-    (tie.spec
-    read-requires
-    enum-known-reason
-    refusal-requires
-    enum-known-contents
-    trailer-word-requires
-    slice-reshare-prefix-check
-    slice-aggregate-check
-    slice-reshare-prefix-check-2
-    slice-aggregate-check-2
-    check-requires
-    same-length
-    same-length-2
-    returns
-    same-length-3
-    same-length-4
-    same-length-5
-    returns-2)
+    (tie.spec (λ c κs. search needs) (λ c. search needs) (λ c κs. search needs) (λ c. search needs)
+    (λ c κs. let h = shown (c .before) in (omega arith, search needs))
+    (λ c. let h = shown (c .before .before) in omega arith)
+    (λ c. let h = shown (c .before .before .before) in sym (length-take-le _ _ (omega arith)))
+    (λ c. let h = shown (c .before .before .before) in omega arith)
+    (λ c. let h = shown (c .before .before .before .before) in sym (length-take-le _ _ (omega arith)))
+    (λ c κs. search needs) (λ c. search needs) (λ c. search needs) returns (λ c. search needs) (λ c. search needs)
+    (λ c. search needs) returns-2)

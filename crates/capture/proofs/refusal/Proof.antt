@@ -6,12 +6,9 @@ use Rattle.rules.specs.Refusals.{answerWith, told}
 use Rattle.capture.proofs.refusal.Statement.{statement}
 use Rattle.capture.proofs.refusal.Tie as tie
 
-number-requires : tie.Need-number-requires
-number-requires c κs = search needs
-
 returns : tie.Need-returns
 unfolding openedVerdict told answerWith
 returns c = rw (c .number .ensures)
 
 pub refusal-spec : {M : Type 1} → statement M
-refusal-spec = tie.close (tie.spec number-requires returns)
+refusal-spec = tie.close (tie.spec (λ c κs. search needs) returns)

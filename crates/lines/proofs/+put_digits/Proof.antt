@@ -43,4 +43,7 @@ pub +put-digits-spec : {M : Type 1} → statement M
     (λ c κs. search needs)
     (λ c κs. search needs)
     (λ c. search needs)
-    (λ c. last-digit _ _ (search needs) (search needs) (c .before .before .before .before .before .before .put-digits .ensures) (c .before .before .put-byte2 .ensures))
+    (λ c.
+    let byte = c .before .before in
+    let front = byte .before .before .before .before in
+    last-digit _ _ (search needs) (search needs) (front .put-digits .ensures) (byte .put-byte2 .ensures))

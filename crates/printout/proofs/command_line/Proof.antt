@@ -7,33 +7,16 @@ use Rattle.lines.proofs.Putting.{then, whole}
 use Rattle.printout.proofs.command_line.Statement.{statement}
 use Rattle.printout.proofs.command_line.Tie as tie
 
-put-column-requires : tie.Need-put-column-requires
-put-column-requires c κs = search needs
-
-put-column-requires-2 : tie.Need-put-column-requires-2
-put-column-requires-2 c κs = search needs
-
-put-column-requires-3 : tie.Need-put-column-requires-3
-put-column-requires-3 c κs = search needs
-
-put-column-requires-4 : tie.Need-put-column-requires-4
-put-column-requires-4 c κs = search needs
-
 returns : tie.Need-returns
 unfolding commandLine
 returns c =
     let row = c .before .before in
     let level = row .before .before in
     let index = level .before .before in
-    whole (search needs)
-    (simp append-assoc at (then (index .put-column .ensures) (then (level .put-column2 .ensures) (then (row .put-column3 .ensures) (c .put-column4 .ensures)))))
+    let rest = then (level .put-column2 .ensures) (then (row .put-column3 .ensures) (c .put-column4 .ensures)) in
+    whole (search needs) (simp append-assoc at (then (index .put-column .ensures) rest))
 
 pub command-line-spec : {M : Type 1} → statement M
 command-line-spec =
     tie.close
-    (tie.spec
-    put-column-requires
-    put-column-requires-2
-    put-column-requires-3
-    put-column-requires-4
-    returns)
+    (tie.spec (λ c κs. search needs) (λ c κs. search needs) (λ c κs. search needs) (λ c κs. search needs) returns)

@@ -4,14 +4,8 @@ use borrow.Author.Needs.{needs}
 use Rattle.printout.proofs.record_line.Statement.{statement}
 use Rattle.printout.proofs.record_line.Tie as tie
 
-command-requires : tie.Need-command-requires
-command-requires c κs = search needs
-
-command-line-requires : tie.Need-command-line-requires
-command-line-requires c κs = search needs
-
 returns : tie.Need-returns
 returns c = rw (c .before .command .ensures) at (c .command-line .ensures)
 
 pub record-line-spec : {M : Type 1} → statement M
-record-line-spec = tie.close (tie.spec command-requires command-line-requires returns)
+record-line-spec = tie.close (tie.spec (λ c κs. search needs) (λ c κs. search needs) returns)

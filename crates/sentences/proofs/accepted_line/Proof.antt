@@ -8,7 +8,10 @@ use Rattle.sentences.proofs.accepted_line.Tie as tie
 
 returns : tie.Need-returns
 unfolding acceptedLine
-returns c = whole (search needs) (then (then (c .before .before .before .before .put-both .ensures) (c .before .before .put-commands .ensures)) (c .put-byte .ensures))
+returns c =
+    let commands = c .before .before in
+    let name = commands .before .before in
+    whole (search needs) (then (then (name .put-both .ensures) (commands .put-commands .ensures)) (c .put-byte .ensures))
 
 pub accepted-line-spec : {M : Type 1} → statement M
 accepted-line-spec =

@@ -15,10 +15,11 @@ returns c =
     let number = progress .before .before in
     let name = number .before .before .before in
     let words = rw (row .before .reason-row .ensures) at (row .put-row .ensures) in
-    whole (search needs)
-    (then (then (then (then (then (name .put-both .ensures) (number .put-digits .ensures)) (progress .put-progress .ensures)) (colon .put-text .ensures)) words) (c .put-byte .ensures))
+    let place = then (then (name .put-both .ensures) (number .put-digits .ensures)) (progress .put-progress .ensures) in
+    whole (search needs) (then (then (then place (colon .put-text .ensures)) words) (c .put-byte .ensures))
 
 pub refused-line-spec : {M : Type 1} → statement M
 refused-line-spec =
     tie.close
-    (tie.spec (λ c. search needs) (λ c κs. search needs) (λ c. search needs) (λ c κs. search needs) (λ c κs. search needs) (λ c. search needs) (λ c κs. search needs) (λ c κs. search needs) (λ c κs. search needs) (λ c κs. search needs) returns)
+    (tie.spec (λ c. search needs) (λ c κs. search needs) (λ c. search needs) (λ c κs. search needs) (λ c κs. search needs)
+    (λ c. search needs) (λ c κs. search needs) (λ c κs. search needs) (λ c κs. search needs) (λ c κs. search needs) returns)

@@ -8,9 +8,13 @@ use Rattle.sentences.proofs.totals_line.Tie as tie
 
 returns : tie.Need-returns
 unfolding totalsLine
-returns c = whole (search needs) (then (then (c .before .before .before .before .before .before .put-count .ensures) (c .before .before .before .put-count2 .ensures)) (c .put-count3 .ensures))
+returns c =
+    let refused = c .before .before .before in
+    let accepted = refused .before .before .before in
+    whole (search needs) (then (then (accepted .put-count .ensures) (refused .put-count2 .ensures)) (c .put-count3 .ensures))
 
 pub totals-line-spec : {M : Type 1} → statement M
 totals-line-spec =
     tie.close
-    (tie.spec (λ c. search needs) (λ c κs. search needs) (λ c. search needs) (λ c κs. search needs) (λ c. search needs) (λ c κs. search needs) returns)
+    (tie.spec (λ c. search needs) (λ c κs. search needs) (λ c. search needs) (λ c κs. search needs) (λ c. search needs)
+    (λ c κs. search needs) returns)

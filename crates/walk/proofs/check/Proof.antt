@@ -1,7 +1,9 @@
 -- `walk::check` meets its promise: 1 to 4 come first, and then the run.
 -- Assumes nothing.
-use mathlib.Core.Path.{_∙_}
-use Rattle.rules.specs.Windows.{lengthsOf}
+use mathlib.Core.Path.{_≡_, _∙_}
+use denote.Ref.{now}
+use Rattle.rules.specs.declared.Verdict.the-variants.{Pass, Fails}
+use Rattle.rules.specs.Windows.{Capture, lengthsOf, windowFault}
 use Rattle.rules.proofs.Places.{window-place}
 use Rattle.rules.proofs.Ranges.{counted}
 use Rattle.walk.specs.Lent.{lentCapture}
@@ -11,43 +13,48 @@ use native.Mathlib.Omega.{arith}
 use Rattle.walk.proofs.check.Statement.{statement}
 use Rattle.walk.proofs.check.Tie as tie
 
-windows-of-requires : tie.Need-windows-of-requires
-windows-of-requires c κs = search needs
+-- the windows that were made, and the capture that they are of
+abbrev made : tie.After-sound → tie.After-windows-of
+made c = c .before
 
-sound-requires : tie.Need-sound-requires
-sound-requires c κs = search needs
+abbrev lent : tie.After-sound → Capture
+lent c =
+    let a = made c .before .before .before .before .args in
+    lentCapture (now (a .batch)) (a .batch-at) (now (a .state)) (a .state-at) (a .scratch-at) (a .scratch-len)
 
-enum-known-f : tie.Need-enum-known-f
-enum-known-f c = search needs
+-- what the checks 1 to 4 found
+failing : (c : tie.After-f) → windowFault (lengthsOf (lent (c .before .before))) ≡ Fails (c .f .given .0 .0)
+failing c =
+    let s = c .before .before in
+    judged (lent s) (made s .windows-of .ensures) (s .sound .ensures) ∙ c .f .given .1
+
+passing : (c : tie.After-enum-told) → windowFault (lengthsOf (lent (c .before .before))) ≡ Pass
+passing c =
+    let s = c .before .before in
+    judged (lent s) (made s .windows-of .ensures) (s .sound .ensures) ∙ c .enum-told .given .1
 
 refusal-requires : tie.Need-refusal-requires
-refusal-requires c κs = let p = window-place _ _ (judged (lentCapture (c .before .before .before .before .before .before .before .before .args .batch .now) (c .before .before .before .before .before .before .before .before .args .batch-at) (c .before .before .before .before .before .before .before .before .args .state .now) (c .before .before .before .before .before .before .before .before .args .state-at) (c .before .before .before .before .before .before .before .before .args .scratch-at) (c .before .before .before .before .before .before .before .before .args .scratch-len)) (c .before .before .before .before .windows-of .ensures) (c .before .before .before .sound .ensures) ∙ c .before .f .given .1) in (omega (arith, p .0), omega (arith, p .1), search needs)
+refusal-requires c κs =
+    let place = window-place _ _ (failing (c .before)) in
+    (omega (arith, place .0), omega (arith, place .1), search needs)
 
 returns : tie.Need-returns
-returns c = rw (c .refusal .ensures) (unsound _ _ (judged (lentCapture (c .before .before .before .before .before .before .before .before .before .args .batch .now) (c .before .before .before .before .before .before .before .before .before .args .batch-at) (c .before .before .before .before .before .before .before .before .before .args .state .now) (c .before .before .before .before .before .before .before .before .before .args .state-at) (c .before .before .before .before .before .before .before .before .before .args .scratch-at) (c .before .before .before .before .before .before .before .before .before .args .scratch-len)) (c .before .before .before .before .before .windows-of .ensures) (c .before .before .before .before .sound .ensures) ∙ c .before .before .f .given .1))
-
-enum-told : tie.Need-enum-told
-enum-told c = search needs
+returns c = rw (c .refusal .ensures) (unsound _ _ (failing (c .before .before)))
 
 run-requires : tie.Need-run-requires
-run-requires c κs = let q = counted (lengthsOf (lentCapture (c .before .before .before .before .before .before .before .before .args .batch .now) (c .before .before .before .before .before .before .before .before .args .batch-at) (c .before .before .before .before .before .before .before .before .args .state .now) (c .before .before .before .before .before .before .before .before .args .state-at) (c .before .before .before .before .before .before .before .before .args .scratch-at) (c .before .before .before .before .before .before .before .before .args .scratch-len))) (judged (lentCapture (c .before .before .before .before .before .before .before .before .args .batch .now) (c .before .before .before .before .before .before .before .before .args .batch-at) (c .before .before .before .before .before .before .before .before .args .state .now) (c .before .before .before .before .before .before .before .before .args .state-at) (c .before .before .before .before .before .before .before .before .args .scratch-at) (c .before .before .before .before .before .before .before .before .args .scratch-len)) (c .before .before .before .before .windows-of .ensures) (c .before .before .before .sound .ensures) ∙ c .before .enum-told .given .1) in (fitting (lentCapture (c .before .before .before .before .before .before .before .before .args .batch .now) (c .before .before .before .before .before .before .before .before .args .batch-at) (c .before .before .before .before .before .before .before .before .args .state .now) (c .before .before .before .before .before .before .before .before .args .state-at) (c .before .before .before .before .before .before .before .before .args .scratch-at) (c .before .before .before .before .before .before .before .before .args .scratch-len)) (c .before .before .before .before .windows-of .ensures), q .batch, q .state, no-base)
-
-same-length : tie.Need-same-length
-same-length c = search needs
+run-requires c κs =
+    let s = c .before .before .before in
+    let lengths = counted (lengthsOf (lent s)) (passing (c .before)) in
+    (fitting (lent s) (made s .windows-of .ensures), lengths .batch, lengths .state, no-base)
 
 returns-2 : tie.Need-returns-2
-returns-2 c = sound _ _ (judged (lentCapture (c .before .before .before .before .before .before .before .before .before .before .before .args .batch .now) (c .before .before .before .before .before .before .before .before .before .before .before .args .batch-at) (c .before .before .before .before .before .before .before .before .before .before .before .args .state .now) (c .before .before .before .before .before .before .before .before .before .before .before .args .state-at) (c .before .before .before .before .before .before .before .before .before .before .before .args .scratch-at) (c .before .before .before .before .before .before .before .before .before .before .before .args .scratch-len)) (c .before .before .before .before .before .before .before .windows-of .ensures) (c .before .before .before .before .before .before .sound .ensures) ∙ c .before .before .before .before .enum-told .given .1) (rw (captured-is (lentCapture (c .before .before .before .before .before .before .before .before .before .before .before .args .batch .now) (c .before .before .before .before .before .before .before .before .before .before .before .args .batch-at) (c .before .before .before .before .before .before .before .before .before .before .before .args .state .now) (c .before .before .before .before .before .before .before .before .before .before .before .args .state-at) (c .before .before .before .before .before .before .before .before .before .before .before .args .scratch-at) (c .before .before .before .before .before .before .before .before .before .before .before .args .scratch-len)) (c .before .before .before .before .before .before .before .windows-of .ensures)) at (c .before .before .run .ensures))
+returns-2 c =
+    let told = c .before .before .before .before in
+    let s = told .before .before in
+    sound _ _ (passing told) (rw (captured-is (lent s) (made s .windows-of .ensures)) at (c .before .before .run .ensures))
 
 pub check-spec : {M : Type 1} → statement M
 check-spec =
     tie.close
-    (tie.spec
-    windows-of-requires
-    sound-requires
-    enum-known-f
-    refusal-requires
-    returns
-    enum-told
-    run-requires
-    same-length
-    returns-2)
+    (tie.spec (λ c κs. search needs) (λ c κs. search needs) (λ c. search needs) refusal-requires returns (λ c. search needs)
+    run-requires (λ c. search needs) returns-2)

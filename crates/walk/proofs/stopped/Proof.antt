@@ -5,20 +5,14 @@ use borrow.Author.Tests.{eq-eqb, ne-eqb}
 use Rattle.walk.proofs.stopped.Statement.{statement}
 use Rattle.walk.proofs.stopped.Tie as tie
 
-spent-requires : tie.Need-spent-requires
-spent-requires c κs = search needs
-
 refusal-requires : tie.Need-refusal-requires
 refusal-requires c κs = rw (c .spent .ensures) (search needs)
 
 returns : tie.Need-returns
 returns c = rw (c .refusal .ensures, c .before .spent .ensures, eq-eqb _ _ (c .before .before .if1 .taken))
 
-refusal-requires-2 : tie.Need-refusal-requires-2
-refusal-requires-2 c κs = search needs
-
 returns-2 : tie.Need-returns-2
 returns-2 c = rw (c .refusal2 .ensures, ne-eqb _ _ (c .before .if1 .left))
 
 pub stopped-spec : {M : Type 1} → statement M
-stopped-spec = tie.close (tie.spec spent-requires refusal-requires returns refusal-requires-2 returns-2)
+stopped-spec = tie.close (tie.spec (λ c κs. search needs) refusal-requires returns (λ c κs. search needs) returns-2)

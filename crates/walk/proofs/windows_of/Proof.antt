@@ -5,15 +5,9 @@ use borrow.Author.Needs.{needs}
 use Rattle.walk.proofs.windows_of.Statement.{statement}
 use Rattle.walk.proofs.windows_of.Tie as tie
 
-lent-requires : tie.Need-lent-requires
-lent-requires c κs = search needs
-
-lent-requires-2 : tie.Need-lent-requires-2
-lent-requires-2 c κs = search needs
-
 returns : tie.Need-returns
 unfolding windowsOf
 returns c = rw (c .before .lent .ensures, c .lent2 .ensures)
 
 pub windows-of-spec : {M : Type 1} → statement M
-windows-of-spec = tie.close (tie.spec lent-requires lent-requires-2 returns)
+windows-of-spec = tie.close (tie.spec (λ c κs. search needs) (λ c κs. search needs) returns)

@@ -40,4 +40,8 @@ pub +put-hex-spec : {M : Type 1} → statement M
     (λ c κs. search needs)
     (λ c κs. search needs)
     (λ c. search needs)
-    (λ c. last-digit _ _ (search needs) (c .before .before .before .before .before .before .before .put-hex .ensures) (c .before .before .before .hex-digit .ensures) (c .before .before .put-byte .ensures))
+    (λ c.
+    let byte = c .before .before in
+    let digit = byte .before in
+    let front = digit .before .before .before .before in
+    last-digit _ _ (search needs) (front .put-hex .ensures) (digit .hex-digit .ensures) (byte .put-byte .ensures))

@@ -9,7 +9,9 @@ use Rattle.sentences.proofs.parts.put_commands.Tie as tie
 
 returns : tie.Need-returns
 unfolding commandsText
-returns c = simp (eq-eqb _ _ (c .before .before .before .before .before .if1 .taken)) (at-most (search needs) (c .before .before .put-count .ensures))
+returns c =
+    let count = c .before .before in
+    simp (eq-eqb _ _ (count .before .before .before .if1 .taken)) (at-most (search needs) (count .put-count .ensures))
 
 returns-2 : tie.Need-returns-2
 unfolding commandsText
@@ -18,4 +20,5 @@ returns-2 c = simp (ne-eqb _ _ (c .before .before .before .before .before .if1 .
 pub put-commands-spec : {M : Type 1} → statement M
 put-commands-spec =
     tie.close
-    (tie.spec (λ c. search needs) (λ c κs. search needs) (λ c. search needs) (λ c κs. search needs) (λ c. search needs) returns (λ c. search needs) returns-2)
+    (tie.spec (λ c. search needs) (λ c κs. search needs) (λ c. search needs) (λ c κs. search needs) (λ c. search needs) returns
+    (λ c. search needs) returns-2)

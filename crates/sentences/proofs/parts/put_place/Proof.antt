@@ -9,7 +9,9 @@ use Rattle.sentences.proofs.parts.put_place.Tie as tie
 
 returns : tie.Need-returns
 unfolding placeText
-returns c = simp (eq-eqb _ _ (c .before .before .before .before .before .if1 .taken)) (at-most (search needs) (c .before .before .put-text .ensures))
+returns c =
+    let words = c .before .before in
+    simp (eq-eqb _ _ (words .before .before .before .if1 .taken)) (at-most (search needs) (words .put-text .ensures))
 
 returns-2 : tie.Need-returns-2
 unfolding placeText
@@ -23,4 +25,5 @@ returns-2 c =
 pub put-place-spec : {M : Type 1} → statement M
 put-place-spec =
     tie.close
-    (tie.spec (λ c. search needs) (λ c κs. search needs) (λ c. search needs) returns (λ c κs. search needs) (λ c. search needs) (λ c. search needs) (λ c κs. search needs) (λ c κs. search needs) (λ c. search needs) returns-2)
+    (tie.spec (λ c. search needs) (λ c κs. search needs) (λ c. search needs) returns (λ c κs. search needs) (λ c. search needs)
+    (λ c. search needs) (λ c κs. search needs) (λ c κs. search needs) (λ c. search needs) returns-2)

@@ -6,15 +6,11 @@ use Rattle.sentences.specs.Lines.{windowText}
 use Rattle.sentences.proofs.parts.put_window.Statement.{statement}
 use Rattle.sentences.proofs.parts.put_window.Tie as tie
 
-returns : tie.Need-returns
-unfolding windowText
-returns c = simp (eq-eqb _ _ (c .before .before .before .before .before .if1 .taken)) (c .before .before .put-text .ensures)
-
-returns-2 : tie.Need-returns-2
-unfolding windowText
-returns-2 c = simp (ne-eqb _ _ (c .before .before .before .before .before .if1 .left)) (c .before .before .put-text2 .ensures)
-
 pub put-window-spec : {M : Type 1} → statement M
+unfolding windowText
 put-window-spec =
     tie.close
-    (tie.spec (λ c. search needs) (λ c κs. search needs) (λ c. search needs) (λ c κs. search needs) (λ c. search needs) returns (λ c. search needs) returns-2)
+    (tie.spec (λ c. search needs) (λ c κs. search needs) (λ c. search needs) (λ c κs. search needs) (λ c. search needs)
+    (λ c. simp (eq-eqb _ _ (c .before .before .before .before .before .if1 .taken)) (c .before .before .put-text .ensures))
+    (λ c. search needs)
+    (λ c. simp (ne-eqb _ _ (c .before .before .before .before .before .if1 .left)) (c .before .before .put-text2 .ensures)))

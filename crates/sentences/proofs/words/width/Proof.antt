@@ -26,4 +26,5 @@ returns-2 c = none-found _ (c .before .loop .inv) (search needs)
 pub width-spec : {M : Type 1} → statement M
 width-spec =
     tie.close
-    (tie.spec Inv-loop μ-loop loop-holds (λ c. search needs) (λ c. search needs) returns (λ c. search needs) (λ c. search needs) loop-again returns-2)
+    (tie.spec Inv-loop μ-loop loop-holds (λ c. search needs) (λ c. search needs) returns (λ c. search needs) (λ c. search needs)
+    loop-again returns-2)
