@@ -49,9 +49,9 @@ use Rattle.walk.specs.Lent.{keptAt, stopFor, Ran}
 pub record SoFar (base : Base) (c : Capture) (old new : List ℕ) (n : ℕ) (r : Run) : Type 0 where
   pub done : List Command
   pub count : length done ≡ n
-  pub room : n ≤ length old
+  pub room : n ≤ roomOf (length old)
   pub held : new ≡ wordsOf done ++ drop n old
-  pub gives : cut (length old) (traceFrom budget c (start base)) ≡ follow done r
+  pub gives : cut (roomOf (length old)) (traceFrom budget c (start base)) ≡ follow done r
 
 words-join : (ks ls : List Command) → wordsOf (ks ++ ls) ≡ wordsOf ks ++ wordsOf ls
 unfolding wordsOf
@@ -74,7 +74,7 @@ ran {old = old} {n = n} {v = v} s = record {
 
 -- one command more is done, and its record written
 pub wrote : {base : Base} {c : Capture} {old new : List ℕ} {n : ℕ} {k : Command} {r : Run} → SoFar base c old new n (then k r)
-    → n < length old → SoFar base c old (set new n (recordOf k)) (n + 1) r
+    → n < roomOf (length old) → SoFar base c old (set new n (recordOf k)) (n + 1) r
 unfolding wordsOf follow
 wrote {old = old} {new = new} {n = n} {k = k} {r = r} s h = record {
   done = s .done ++ (k ∷ []);
@@ -89,11 +89,11 @@ wrote {old = old} {new = new} {n = n} {k = k} {r = r} s h = record {
 
 -- the loop's head: n commands are done, and the walk stands at s, with what is left of the budget and of the room
 pub record Going (base : Base) (c : Capture) (old new : List ℕ) (n : ℕ) (s : Cursor) : Type 0 where
-  pub budgeted : n ≤ 65536
+  pub budgeted : n ≤ budget
   pub small : SmallBase (s .base)
   pub within : Within c s
   pub same : length new ≡ length old
-  pub so-far : SoFar base c old new n (cut (length old - n) (traceFrom (65536 - n) c s))
+  pub so-far : SoFar base c old new n (cut (roomOf (length old) - n) (traceFrom (budget - n) c s))
 
 left : (k n : ℕ) → n < k → k - n ≡ suc (k - (n + 1))
 left k n h = omega arith
@@ -139,7 +139,7 @@ begun base c old m = record {
     count = refl;
     room = omega arith;
     held = refl;
-    gives = ap (λ (k : ℕ). cut k (traceFrom budget c (start base))) (sym (sub-zero (length old)));
+    gives = ap (λ (k : ℕ). cut k (traceFrom budget c (start base))) (sym (sub-zero (roomOf (length old))));
   };
 }
 
@@ -154,62 +154,62 @@ from-start {base} {s} {c} {old} {new} {r} e x = subst (λ (b : Base). Ran b c ol
 
 -- what each way out of a turn, and the turn itself, makes of it
 module _ {base : Base} {c : Capture} {old new : List ℕ} {n : ℕ} {s : Cursor} (g : Going base c old new n s) where
-  pub out-of-budget : 65536 ≤ n → Ran base c old (answerWith (Fails (spentAt (s .at))) n) new
+  pub out-of-budget : budget ≤ n → Ran base c old (answerWith (Fails (spentAt (s .at))) n) new
   unfolding trace cut
-  out-of-budget h = ran (rw (none-left 65536 n h) at (g .so-far))
+  out-of-budget h = ran (rw (none-left budget n h) at (g .so-far))
 
-  pub refused : {f : Fault} → n < 65536 → stepOf c s ≡ Refused f → Ran base c old (answerWith (Fails f) n) new
+  pub refused : {f : Fault} → n < budget → stepOf c s ≡ Refused f → Ran base c old (answerWith (Fails f) n) new
   unfolding trace cut
-  refused h e = ran (rw (left 65536 n h, e) at (g .so-far))
+  refused h e = ran (rw (left budget n h, e) at (g .so-far))
 
-  no-room : {k : Command} (a : After) → n < 65536 → length new ≤ n → stepOf c s ≡ Taken k a
+  no-room : {k : Command} (a : After) → n < budget → length new ≤ n → stepOf c s ≡ Taken k a
       → SoFar base c old new n (ended (Fails (fullAt (k .index))))
   unfolding trace cut
-  no-room Ends h l e = rw (left 65536 n h, none-left (length old) n (omega (arith, g .same)), e) at (g .so-far)
-  no-room (To t) h l e = rw (left 65536 n h, none-left (length old) n (omega (arith, g .same)), e) at (g .so-far)
+  no-room Ends h l e = rw (left budget n h, none-left (roomOf (length old)) n (omega (arith, g .same)), e) at (g .so-far)
+  no-room (To t) h l e = rw (left budget n h, none-left (roomOf (length old)) n (omega (arith, g .same)), e) at (g .so-far)
 
   index-is : {k : Command} {a : After} → stepOf c s ≡ Taken k a → k .index ≡ s .at
   unfolding commandAt
   index-is e = ap (λ (k : Command). k .index) (took c s e .command)
 
-  pub full : {k : Command} {a : After} → n < 65536 → length new ≤ n → stepOf c s ≡ Taken k a
+  pub full : {k : Command} {a : After} → n < budget → length new ≤ n → stepOf c s ≡ Taken k a
       → Ran base c old (answerWith (Fails (fullAt (s .at))) n) new
   full {a = a} h l e = rw (← index-is e) (ran (no-room a h l e))
 
-  pub last : {k : Command} → n < 65536 → n < length new → stepOf c s ≡ Taken k Ends
+  pub last : {k : Command} → n < budget → n < length new → stepOf c s ≡ Taken k Ends
       → Ran base c old (answerWith Pass (n + 1)) (set new n (recordOf k))
   unfolding trace cut
   last h l e =
-      let z : n < length old = omega (arith, g .same) in
-      ran (wrote (rw (left 65536 n h, left (length old) n z, e) at (g .so-far)) z)
+      let z : n < roomOf (length old) = omega (arith, g .same) in
+      ran (wrote (rw (left budget n h, left (roomOf (length old)) n z, e) at (g .so-far)) z)
 
-  pub next : {k : Command} {t : Cursor} → n < 65536 → n < length new → stepOf c s ≡ Taken k (To t)
+  pub next : {k : Command} {t : Cursor} → n < budget → n < length new → stepOf c s ≡ Taken k (To t)
       → Going base c old (set new n (recordOf k)) (n + 1) t
   unfolding trace cut
-  next h l e = let z : n < length old = omega (arith, g .same) in record {
+  next h l e = let z : n < roomOf (length old) = omega (arith, g .same) in record {
     budgeted = omega arith;
     small = small-next c s (g .small) e;
     within = stays-within c s (g .within) e;
     same = length-set new n _ ∙ g .same;
-    so-far = wrote (rw (left 65536 n h, left (length old) n z, e) at (g .so-far)) z;
+    so-far = wrote (rw (left budget n h, left (roomOf (length old)) n z, e) at (g .so-far)) z;
   }
 
   -- a command that is not taken stops the run: for the budget, where that is spent, and else for its own fault
-  pub stops : (f : Fault) → (n < 65536 → Ran base c old (answerWith (Fails f) n) new)
+  pub stops : (f : Fault) → (n < budget → Ran base c old (answerWith (Fails f) n) new)
       → Ran base c old (answerWith (Fails (stopFor f (s .at) n)) n) new
-  stops f h = by (eqb n 65536) refl
+  stops f h = by (eqb n budget) refl
     where
-      by : (t : Bool) → eqb n 65536 ≡ t → Ran base c old (answerWith (Fails (cond t (spentAt (s .at)) f)) n) new
-      by true e = out-of-budget (omega (arith, eqb-true n 65536 e))
-      by false e = h (let m = eqb-false n 65536 e in omega (arith, g .budgeted))
+      by : (t : Bool) → eqb n budget ≡ t → Ran base c old (answerWith (Fails (cond t (spentAt (s .at)) f)) n) new
+      by true e = out-of-budget (omega (arith, eqb-true n budget e))
+      by false e = h (let m = eqb-false n budget e in omega (arith, g .budgeted))
 
 -- the room for records is what the buffer has, or the budget
 module _ {base : Base} {c : Capture} {old new : List ℕ} {n : ℕ} {s : Cursor} (g : Going base c old new n s) {room : ℕ}
-    (m : (room ≤ length old) × (room ≤ 65536) × (room < 65536 → room ≡ length old)) where
-  pub none-left-there : n ≡ room → n < 65536 → length new ≤ n
+    (m : (room ≤ roomOf (length old)) × (room ≤ budget) × (room < budget → room ≡ roomOf (length old))) where
+  pub none-left-there : n ≡ room → n < budget → length new ≤ n
   none-left-there e h = let z = m .2 (omega arith) in omega (arith, g .same)
 
-  pub some-left : n ≤ room → (n ≡ room → ⊥) → (n < 65536) × (n < length new) × (n < room)
+  pub some-left : n ≤ room → (n ≡ room → ⊥) → (n < budget) × (n < length new) × (n < room)
   some-left l e =
       let z : n < room = omega arith in
       (omega (arith, m .1), omega (arith, m .0, g .same), z)

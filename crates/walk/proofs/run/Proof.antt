@@ -13,7 +13,7 @@ use Rattle.rules.specs.declared.After.the-variants.{To}
 use Rattle.rules.specs.declared.Outcome.the-variants.{Taken, Refused}
 use Rattle.rules.specs.Formats.{surfaceFormats}
 use Rattle.rules.specs.Windows.{Capture}
-use Rattle.rules.specs.Step.{stepOf}
+use Rattle.rules.specs.Step.{budget, stepOf}
 use Rattle.rules.specs.Records.{Recordable}
 use Rattle.rules.proofs.Recording.{fits-record}
 use Rattle.step.specs.Parts.{captured}
@@ -70,7 +70,7 @@ took-then c e = took c ∙ ap (Taken (c .command .given .0 .0)) e
 
 -- there is budget and room for one command more
 room-left : (c : tie.Else1 Inv-loop μ-loop)
-    → (head c .loop .n < 65536) × (head c .loop .n < length (head c .loop .records))
+    → (head c .loop .n < budget) × (head c .loop .n < length (head c .loop .records))
     × (head c .loop .n < counted (head c) .room-in .result)
 room-left c =
     let l = head c in
