@@ -15,7 +15,6 @@ use Rattle.rules.specs.declared.Kind.the-variants.{Viewport, ColourCalc}
 use Rattle.rules.specs.declared.Pointer.{Pointer}
 use Rattle.rules.specs.declared.Pointer.the-variants.{NoPointer, PointsTo}
 use Rattle.rules.specs.declared.Fault.{Fault}
-use Rattle.rules.specs.declared.Found.{Found}
 use Rattle.rules.specs.declared.Found.the-variants.{At, Nothing}
 use Rattle.rules.specs.declared.Verdict.{Verdict}
 use Rattle.rules.specs.declared.Verdict.the-variants.{Pass, Fails}
@@ -30,7 +29,7 @@ use Rattle.rules.specs.Addresses.{rangeWrong}
 use Rattle.rules.specs.Structures.{Asked, structureNowhere, structureBit, structureValue, structureChecks, readAt, verdictOf}
 use Rattle.rules.specs.Step.{nested}
 use Rattle.rules.proofs.Searching.{first-found}
-use Rattle.rules.proofs.Trying.{stays-failed}
+use Rattle.rules.proofs.Trying.{fails-not-pass, stays-failed, refuse-passes, search-clear}
 use Rattle.rules.proofs.Readings.{reading-says}
 use Rattle.search.specs.declared.Sought.{Sought}
 use Rattle.search.specs.declared.Sought.the-variants.{Bits, Values, Ranges}
@@ -66,6 +65,11 @@ module _ (w : Windows) (r : ℕ) (d : List ℕ) (at : ℕ) (level : Level) where
         unfolding contentOf wrong wrongAt bitWrong allowedOf allowedAt valueWrong rangeWrong accessAt
         all-clear e = rw (b, n, v, e)
 
+-- two verdicts in order pass where both do
+pub both-pass : (v later : Verdict) → orElse v later ≡ Pass → (v ≡ Pass) × (later ≡ Pass)
+both-pass Pass later e = (refl, e)
+both-pass (Fails f) later e = absurd (fails-not-pass e)
+
 -- what passes them all
 pub record Clear (w : Windows) (r : ℕ) (d : List ℕ) (level : Level) : Type 0 where
   pub found : (what : Sought) → firstOf (wrong what w r d) (length d) ≡ Nothing
@@ -74,27 +78,21 @@ pub record Clear (w : Windows) (r : ℕ) (d : List ℕ) (level : Level) : Type 0
 pub passes-clear : (w : Windows) (r : ℕ) (d : List ℕ) (at : ℕ) (level : Level) → contentOf w r d at level ≡ Pass → Clear w r d level
 unfolding contentOf wrong wrongAt bitWrong allowedOf allowedAt valueWrong rangeWrong accessAt
 passes-clear w r d at level e =
-    by (firstOf (wrong Bits w r d) (length d)) (nested r level) (firstOf (wrong Values w r d) (length d)) (firstOf (wrong Ranges w r d) (length d)) refl refl refl refl e
+    let bits = both-pass (refuseFound BitNotAllowed batchWindow at (firstOf (wrong Bits w r d) (length d))) _ e in
+    let start = both-pass (refuseIf (nested r level) (fault NestedStart batchWindow at)) _ (bits .1) in
+    let values = both-pass (refuseFound ValueBroken batchWindow at (firstOf (wrong Values w r d) (length d))) _ (start .1) in
+    record {
+      found = each (search-clear _ _ _ _ (bits .0)) (search-clear _ _ _ _ (values .0)) (search-clear _ _ _ _ (values .1));
+      unnested = refuse-passes _ _ (start .0);
+    }
   where
-    unlike : {f : Fault} → Fails f ≡ Pass → ⊥
-    unlike q = let z : _≡_ {A = ℕ} 0 1 = cc in omega arith
+    nowhere : Sought → Type 0
+    nowhere what = firstOf (wrong what w r d) (length d) ≡ Nothing
 
-    by : (b : Found) (n : Bool) (v x : Found) → firstOf (wrong Bits w r d) (length d) ≡ b → nested r level ≡ n → firstOf (wrong Values w r d) (length d) ≡ v
-        → firstOf (wrong Ranges w r d) (length d) ≡ x
-        → orElse (refuseFound BitNotAllowed batchWindow at b)
-        (orElse (refuseIf n (fault NestedStart batchWindow at)) (orElse (refuseFound ValueBroken batchWindow at v) (refuseFound RangeOutside batchWindow at x)))
-        ≡ Pass
-        → Clear w r d level
-    by (At k) n v x eb en ev ex q = absurd (unlike q)
-    by Nothing true v x eb en ev ex q = absurd (unlike q)
-    by Nothing false (At k) x eb en ev ex q = absurd (unlike q)
-    by Nothing false Nothing (At k) eb en ev ex q = absurd (unlike q)
-    by Nothing false Nothing Nothing eb en ev ex q = record { found = λ what. each what; unnested = en }
-      where
-        each : (what : Sought) → firstOf (wrong what w r d) (length d) ≡ Nothing
-        each Bits = eb
-        each Values = ev
-        each Ranges = ex
+    each : nowhere Bits → nowhere Values → nowhere Ranges → (what : Sought) → nowhere what
+    each b v x Bits = b
+    each b v x Values = v
+    each b v x Ranges = x
 
 -- one check, and the next only where it passes
 pub tried-or : {A : Type 0} (check : A → Verdict) (checks : List (A → Verdict)) (a : A) → tried (check ∷ checks) Pass a ≡ orElse (check a) (firstFault checks a)
