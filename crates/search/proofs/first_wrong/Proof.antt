@@ -94,8 +94,7 @@ groups-again : tie.Need-groups-again Inv-loop μ-loop Inv-groups μ-groups
 groups-again c =
     let last = c .before in
     let g = group last in
-    let e : last .loop .j ≡ sized g .group-size .result = omega arith in
-    (
+    let e : last .loop .j ≡ sized g .group-size .result = omega arith in (
       omega arith,
       omega arith,
       next-group _ _ 0 (g .groups .inv .0) (g .groups .inv .2),
