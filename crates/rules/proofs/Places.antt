@@ -25,13 +25,17 @@ use Rattle.rules.specs.declared.Outcome.the-variants.{Refused}
 use Rattle.rules.specs.declared.Verdict.{Verdict}
 use Rattle.rules.specs.declared.Verdict.the-variants.{Pass, Fails}
 use Rattle.rules.specs.declared.Reason.{Reason}
-use Rattle.rules.specs.declared.Reason.the-variants.{WrongCounts, AddressUnaligned, EndsTooHigh, WindowsShare, RanOff, UnknownHeader, WrongLength, PastTheWindow, NestedStart, FileSize, FileDistance, BufferShort}
+use Rattle.rules.specs.declared.Reason.the-variants.{WrongCounts, AddressUnaligned, EndsTooHigh, WindowsShare, RanOff}
+use Rattle.rules.specs.declared.Reason.the-variants.{UnknownHeader, WrongLength, PastTheWindow, NestedStart}
+use Rattle.rules.specs.declared.Reason.the-variants.{FileSize, FileDistance, BufferShort}
 use Rattle.rules.specs.Words.{bit, some, someTwo, firstOf}
 use Rattle.rules.specs.Refusals.{batchWindow, stateWindow, fault, refuseIf, refuseFound, tried, firstFault}
 use Rattle.rules.specs.Windows.{Capture, Lengths, windowLimit, listed, countsWrong, unaligned, endsTooHigh, shareByte, windowChecks, windowFault, lent, holds, holdsDwords, heldAt}
 use Rattle.rules.specs.Commands.{rows, rowCount, theRow, lengthOf, lengthRight}
 use Rattle.rules.specs.Structures.{Asked, askedAt, layoutOf, nowhere, heldWindow, heldFrom, structureNowhere, structureBit, structureValue, structureChecks}
-use Rattle.rules.specs.Step.{Here, here, headerAt, rowAt, lengthAt, dwordsAt, pointerOf, nested, baseMissing, pointed, ofStructure, ranOff, unknownHeader, wrongLength, pastTheWindow, bitNotAllowed, nestedStart, valueBroken, rangeOutside, baseNeverSet, stepChecks, stepOf}
+use Rattle.rules.specs.Step.{Here, here, headerAt, rowAt, lengthAt, dwordsAt, pointerOf, nested, baseMissing, pointed, ofStructure}
+use Rattle.rules.specs.Step.{ranOff, unknownHeader, wrongLength, pastTheWindow, bitNotAllowed, nestedStart, valueBroken}
+use Rattle.rules.specs.Step.{rangeOutside, baseNeverSet, stepChecks, stepOf}
 use Rattle.rules.specs.File.{Offer, sizeWrong, distanceWrong, fileCountsWrong, bufferShort, fileChecks}
 use Rattle.rules.proofs.Searching.{never-both, first-found, and-left}
 use Rattle.rules.proofs.Trying.{fails-not-pass, same-fault, stays-failed, refuse-passes}
@@ -166,7 +170,8 @@ module _ (c : Capture) (s : Cursor) (w : Within c s) where
       rw (← q .is) (inr (refl, omega (arith, held-state _ _ _ _ address (layoutOf kind .dwords) eh)))
   held-place kind address Nowhere eh n bad reason e = absurd (never-both refl n)
 
-  structure-place : {f : Fault} (kind : Kind) (address : ℕ) → structureNowhere (asked kind address) ≡ Pass → (structureBit (asked kind address) ≡ Fails f) ⊎ (structureValue (asked kind address) ≡ Fails f) → InPlace c f
+  structure-place : {f : Fault} (kind : Kind) (address : ℕ) → structureNowhere (asked kind address) ≡ Pass
+      → (structureBit (asked kind address) ≡ Fails f) ⊎ (structureValue (asked kind address) ≡ Fails f) → InPlace c f
   unfolding asked structureNowhere structureBit structureValue
   structure-place kind address p (inl e) = held-place kind address _ refl (refuse-passes _ _ p) _ _ e
   structure-place kind address p (inr e) = held-place kind address _ refl (refuse-passes _ _ p) _ _ e

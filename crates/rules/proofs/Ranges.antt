@@ -15,7 +15,8 @@ use Rattle.rules.specs.declared.Windows.{Windows}
 use Rattle.rules.specs.declared.Within.the-variants.{BatchOnly, ScratchOnly, AnyWindow}
 use Rattle.rules.specs.declared.Verdict.the-variants.{Pass}
 use Rattle.rules.specs.Words.{some, someTwo}
-use Rattle.rules.specs.Windows.{Capture, windowLimit, pageBytes, countsWrong, unaligned, window, listed, end, windowsOf, endsTooHigh, shareByte, windowChecks, lengthsOf, Lengths, windowFault, holds, Inside, windowsWithin, fits}
+use Rattle.rules.specs.Windows.{Capture, windowLimit, pageBytes, countsWrong, unaligned, window, listed, end, windowsOf}
+use Rattle.rules.specs.Windows.{endsTooHigh, shareByte, windowChecks, lengthsOf, Lengths, windowFault, holds, Inside, windowsWithin, fits}
 use Rattle.rules.proofs.Searching.{either, never-both, some-left, some-right, or-cases, and-left, and-right}
 use Rattle.rules.proofs.Trying.{all-pass, refuse-passes}
 

@@ -64,7 +64,8 @@ short-counted (byBit b f g) size header s e =
 short-counted (groups n) size header s e =
     let x = field header 7 0 in
     let i = and-right (eqb ((x + 1) % size) 0) _ e in
-    let p = whole-groups x size n (eqb-true _ 0 (and-left (eqb ((x + 1) % size) 0) _ e)) (leb-true _ n (and-right (leb 1 ((x + 1) / size)) _ i)) (leb-true (n * size) 254 (and-right (leb 1 size) _ s)) in
+    let p = whole-groups x size n (eqb-true _ 0 (and-left (eqb ((x + 1) % size) 0) _ e)) (leb-true _ n (and-right (leb 1 ((x + 1) / size)) _ i))
+    (leb-true (n * size) 254 (and-right (leb 1 size) _ s)) in
     omega arith
 
 pub length-fits : (r header : ℕ) → r < rowCount → lengthRight r header ≡ true → lengthOf r header < 256

@@ -24,7 +24,9 @@ use Rattle.rules.specs.Masks.{bitWrong}
 use Rattle.rules.specs.Values.{valueWrong}
 use Rattle.rules.specs.Addresses.{rangeWrong}
 use Rattle.rules.specs.Structures.{structureNowhere, structureBit, structureValue, structureChecks}
-use Rattle.rules.specs.Step.{Here, here, headerAt, rowAt, lengthAt, dwordsAt, pointerOf, nested, baseMissing, ofStructure, ranOff, unknownHeader, wrongLength, pastTheWindow, bitNotAllowed, nestedStart, valueBroken, rangeOutside, baseNeverSet, stepChecks, moveOf, commandAt, outcomeOf, stepOf}
+use Rattle.rules.specs.Step.{Here, here, headerAt, rowAt, lengthAt, dwordsAt, pointerOf, nested, baseMissing, ofStructure}
+use Rattle.rules.specs.Step.{ranOff, unknownHeader, wrongLength, pastTheWindow, bitNotAllowed, nestedStart, valueBroken}
+use Rattle.rules.specs.Step.{rangeOutside, baseNeverSet, stepChecks, moveOf, commandAt, outcomeOf, stepOf}
 use Rattle.rules.proofs.Searching.{none-found}
 use Rattle.rules.proofs.Trying.{all-pass, no-fault, refuse-passes, search-clear, fails-not-pass}
 

@@ -228,11 +228,13 @@ module _ (base : Base) (c : Capture) (room : ℕ) where
             earlier = λ ks t l h. all-pass (here c t) _ (counted _ t _ (told .earlier ks t l (rw (walk-sound w) at h)));
           }
 
-  pub refusal : {f : Fault} → endOf (walk base c room) ≡ Fails f → ((windowFault (lengthsOf c) ≡ Fails f) × (commandsOf (walk base c room) ≡ [])) ⊎ WalkFault base c room (commandsOf (walk base c room)) f
+  pub refusal : {f : Fault} → endOf (walk base c room) ≡ Fails f
+      → ((windowFault (lengthsOf c) ≡ Fails f) × (commandsOf (walk base c room) ≡ [])) ⊎ WalkFault base c room (commandsOf (walk base c room)) f
   unfolding run commandsOf endOf
   refusal {f} e = by (windowFault (lengthsOf c)) refl
     where
-      by : (v : Verdict) → windowFault (lengthsOf c) ≡ v → ((windowFault (lengthsOf c) ≡ Fails f) × (commandsOf (walk base c room) ≡ [])) ⊎ WalkFault base c room (commandsOf (walk base c room)) f
+      by : (v : Verdict) → windowFault (lengthsOf c) ≡ v
+          → ((windowFault (lengthsOf c) ≡ Fails f) × (commandsOf (walk base c room) ≡ [])) ⊎ WalkFault base c room (commandsOf (walk base c room)) f
       by Pass w = inr (stops-told w (rw (walk-sound w) at e))
       by (Fails g) w = inl (w ∙ rw (walk-unsound w) at e, rw (walk-unsound w))
 
