@@ -1,30 +1,37 @@
 -- The streamer beside the walk: a machine that agrees with a cursor fetches the dwords of the command that stands there, and no others.
 -- Assumes nothing.
-use Prim.Native.Nat.{ℕ, zero, suc, _+_, _-_, _*_, _/_, _%_, _^_, _≤_, _<_}
+use Prim.Native.Nat.{ℕ, zero, suc, _+_, _-_, _/_, _%_, _≤_, _<_}
 use native.Mathlib.Nat.{add-zero}
 use native.Mathlib.Numerals.{add-one}
 use native.Mathlib.Omega.{arith}
 use mathlib.Core.Path.{_≡_, refl, sym, ap, _∙_}
-use mathlib.Core.Bool.{Bool, true, false, not}
-use mathlib.Core.List.{List, [], _∷_}
-use mathlib.Core.Option.{Option, some, none}
+use mathlib.Core.Bool.{Bool, true, false}
+use mathlib.Core.List.{List, _∷_}
+use mathlib.Core.Option.{some}
+use mathlib.Core.Logic.{⊎-elim}
 use lib.ListN.{length, getD, getElem?, take, drop, length-drop}
 use lib.Seq.{getD-take, getD-drop, drop-cons, length-take-le}
 use lib.Bits.{bitAnd, and-mod, and-zero-r}
-use lib.Dec.{eqb}
+use lib.Dec.{lit<}
 use borrow.Author.Tests.{eqb-true, not-false}
 use Rattle.rules.specs.declared.Level.{Level}
 use Rattle.rules.specs.declared.Level.the-variants.{First, Second}
 use Rattle.rules.specs.declared.Cursor.{Cursor}
+use Rattle.rules.specs.declared.Within.the-variants.{AnyWindow}
 use Rattle.rules.specs.Words.{allowed}
-use Rattle.rules.specs.Windows.{Capture}
+use Rattle.rules.specs.Windows.{Capture, windowsOf, windowsWithin, listed, holds, Inside, fits}
 use Rattle.rules.specs.Commands.{Length, noField, exactly, byBit, groups, theRow, dwordCount, lengthOf}
 use Rattle.rules.specs.Uses.{addressAt}
 use Rattle.rules.specs.Masks.{allowedAt, bitWrong}
 use Rattle.rules.specs.Step.{headerAt, rowAt, lengthAt, dwordsAt}
+use Rattle.rules.proofs.Ranges.{inside, Sound, noWindow, some-at}
 use Rattle.rules.proofs.Stepping.{Passed}
-use Rattle.replay.specs.Streamer.{Machine, Step, withWord, fetched, fetchedWords, fetchedAddress}
+use Rattle.replay.specs.Streamer.{Machine, Step, fetched, fetchedWords, fetchedAddress}
+use Rattle.replay.specs.Streamer.{Place, batchWord, stateWord, scratchWord, placeOf, loadFrom}
+use Rattle.replay.specs.Conduct.{mapOf}
+use Rattle.replay.specs.Uses.{Has, addressOf}
 use Rattle.replay.proofs.Stores.{Windowed, some-word}
+use Rattle.replay.proofs.Words.{has-load, outside-or-has, outside-has-none}
 
 abbrev pub isSecond : Level → Bool
 isSecond First = false
@@ -36,6 +43,34 @@ pub record Agrees (c : Capture) (s : Cursor) (m : Machine) : Type 0 where
   pub level : m .second ≡ isSecond (s .level)
   pub kept : (back : ℕ) → s .level ≡ Second back → m .kept ≡ some back
   pub windowed : Windowed c m
+
+-- a word in any of the windows can be loaded
+module _ (c : Capture) (s : Sound (listed (windowsOf c))) (m : Machine) (w : Windowed c m) (a : ℕ) (e : a % 4 ≡ 0) where
+  has-inside : (i : ℕ) → i < 3 → Inside (getD (listed (windowsOf c)) i noWindow) a 4 → (p : Place) × Has m p × (a ≡ addressOf (mapOf c) p)
+  unfolding windowsOf
+  has-inside zero h i =
+      let l = i .low in
+      let k = i .high in
+      let g : c .batchAt % 4096 ≡ 0 = s .aligned 0 (lit< tt) in
+      (batchWord ((a - c .batchAt) / 4), omega (arith, ap length (w .batch)), omega arith)
+  has-inside (suc zero) h i =
+      let l = i .low in
+      let k = i .high in
+      let g : c .stateAt % 4096 ≡ 0 = s .aligned 1 (lit< tt) in
+      (stateWord ((a - c .stateAt) / 4), omega (arith, ap length (w .state)), omega arith)
+  has-inside (suc (suc zero)) h i =
+      let l = i .low in
+      let k = i .high in
+      let g : c .scratchAt % 4096 ≡ 0 = s .aligned 2 (lit< tt) in
+      (scratchWord ((a - c .scratchAt) / 4), omega (arith, w .scratch), omega arith)
+  has-inside (suc (suc (suc i))) h j = absurd (omega arith)
+
+  pub loaded-word : fits (windowsOf c) AnyWindow a 4 ≡ true → (v : ℕ) × (loadFrom m (placeOf (mapOf c) m a) ≡ some v)
+  unfolding fits windowsWithin
+  loaded-word f =
+      let o = some-at (λ v. holds v a 4) noWindow (listed (windowsOf c)) f in
+      let x = has-inside (o .0) (o .1) (inside _ a 4 (o .2)) in
+      ⊎-elim (λ q. absurd (outside-has-none (mapOf c) m a q (x .0) (x .1) (x .2))) (λ h. has-load m (placeOf (mapOf c) m a) (h .0)) (outside-or-has (mapOf c) m a)
 
 -- a word whose allowed bits leave out the lowest two is a multiple of 4
 pub multiple-of-4 : (w mask : ℕ) → allowed w mask ≡ true → mask % 4 ≡ 0 → w % 4 ≡ 0

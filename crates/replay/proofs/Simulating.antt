@@ -33,8 +33,8 @@ use Rattle.rules.proofs.Moving.{Way, ends, returns, jumps, calls, goes-on, take
 use Rattle.replay.specs.Streamer.{Map, Machine, machine, Effect, Step, goes, fails, Hardware, withWord, fetched, fetchedWords, fetchedAddress, placeOf, loadFrom, storeWords, onward, advance, stores, update, withRegisters, setPairs, returning, endBatch, goingTo, startBatch, pipe, exec, step}
 use Rattle.replay.specs.Runs.{levelOf, fetchedCommand}
 use Rattle.replay.specs.Conduct.{mapOf, AllInScratch}
-use Rattle.replay.proofs.Stores.{Windowed, Stored, stored-words, loaded-word}
-use Rattle.replay.proofs.Fetching.{isSecond, Agrees, some-long, own-dword, counted, fetches, fetches-address, fetches-words, header-is, aligned}
+use Rattle.replay.proofs.Stores.{Windowed, Stored, stored-words}
+use Rattle.replay.proofs.Fetching.{isSecond, Agrees, loaded-word, some-long, own-dword, counted, fetches, fetches-address, fetches-words, header-is, aligned}
 
 -- the streamer's step that a walk's move stands for, and where it leaves the machine
 abbrev pub stepWith : After → Effect → Step

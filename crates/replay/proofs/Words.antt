@@ -15,14 +15,7 @@ use Rattle.rules.proofs.Searching.{and-left, and-right}
 use Rattle.replay.specs.Streamer.{Map, Machine, Effect, wordAt, Place, batchWord, stateWord, scratchWord, outside, placed, placeOf}
 use Rattle.replay.specs.Streamer.{loadFrom, storeTo, noting, withMachine, storeWords}
 use Rattle.replay.specs.Uses.{addressesFrom, Has, addressOf}
-use Rattle.replay.proofs.Stores.{found, some-word}
-
--- what the constructors keep apart, and what they keep
-pub some-not-none : {A : Type 0} {x : A} → some x ≡ none → ⊥
-some-not-none e = let z : _≡_ {A = ℕ} 0 1 = cc in omega arith
-
-pub same-some : {A : Type 0} {x y : A} → some x ≡ some y → x ≡ y
-same-some e = cc
+use Rattle.replay.proofs.Stores.{found, some-word, some-not-none, same-some}
 
 -- a word is stored in a list, and no other
 word-set : (l : List ℕ) (i w : ℕ) → i < length l → getElem? (set l i w) i ≡ some w
