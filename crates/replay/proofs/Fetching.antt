@@ -1,16 +1,15 @@
--- The streamer beside the walk: a machine that agrees with a cursor fetches the dwords of the command that stands there, and no others.
+-- The streamer beside the walk: a machine that agrees with a cursor finds the row, the length and the dwords of the command that stands there.
 -- Assumes nothing.
-use Prim.Native.Nat.{ℕ, zero, suc, _+_, _-_, _/_, _%_, _≤_, _<_}
+use Prim.Native.Nat.{ℕ, zero, suc, _+_, _-_, _/_, _%_, _<_}
 use native.Mathlib.Nat.{add-zero}
-use native.Mathlib.Numerals.{add-one}
 use native.Mathlib.Omega.{arith}
-use mathlib.Core.Path.{_≡_, refl, sym, ap, _∙_}
+use mathlib.Core.Path.{_≡_, sym, ap, _∙_}
 use mathlib.Core.Bool.{Bool, true, false}
-use mathlib.Core.List.{List, _∷_}
+use mathlib.Core.List.{List}
 use mathlib.Core.Option.{some}
 use mathlib.Core.Logic.{⊎-elim}
-use lib.ListN.{length, getD, getElem?, take, drop, length-drop}
-use lib.Seq.{getD-take, getD-drop, drop-cons, length-take-le}
+use lib.ListN.{length, getD, drop}
+use lib.Seq.{getD-take, getD-drop}
 use lib.Bits.{bitAnd, and-mod, and-zero-r}
 use lib.Dec.{lit<}
 use borrow.Author.Tests.{eqb-true, not-false}
@@ -26,11 +25,12 @@ use Rattle.rules.specs.Masks.{allowedAt, bitWrong}
 use Rattle.rules.specs.Step.{headerAt, rowAt, lengthAt, dwordsAt}
 use Rattle.rules.proofs.Ranges.{inside, Sound, noWindow, some-at}
 use Rattle.rules.proofs.Stepping.{Passed}
-use Rattle.replay.specs.Streamer.{Machine, Step, fetched, fetchedWords, fetchedAddress}
+use Rattle.replay.specs.Streamer.{Machine}
 use Rattle.replay.specs.Streamer.{Place, batchWord, stateWord, scratchWord, placeOf, loadFrom}
 use Rattle.replay.specs.Conduct.{mapOf}
-use Rattle.replay.specs.Uses.{Has, addressOf}
-use Rattle.replay.proofs.Stores.{Windowed, some-word}
+use Rattle.replay.specs.Runs.{fetchedCommand}
+use Rattle.replay.specs.Uses.{row, total, dword, address, Has, addressOf}
+use Rattle.replay.proofs.Stores.{Windowed}
 use Rattle.replay.proofs.Words.{has-load, outside-or-has, outside-has-none}
 
 abbrev pub isSecond : Level → Bool
@@ -102,38 +102,29 @@ module _ (c : Capture) (s : Cursor) (m : Machine) (p : Passed c s) (g : Agrees c
   unfolding dwordsAt
   own-dword k h = getD-take long (drop (s .at) (c .batch)) k 0 h ∙ getD-drop (s .at) (c .batch) k 0
 
-  -- they are as many as its length
-  pub counted : length (dwordsAt (c .batch) (s .at)) ≡ lengthAt (c .batch) (s .at)
-  unfolding dwordsAt
-  counted = let w = p .whole in length-take-le long (drop (s .at) (c .batch)) (omega (arith, length-drop (s .at) (c .batch)))
+  -- what the machine fetches, in the words of the walk
+  pub row-is : row m ≡ rowAt (c .batch) (s .at)
+  unfolding fetchedCommand
+  row-is = rw (g .windowed .batch, g .at)
 
-  at-dword : (k : ℕ) → k < long → getElem? (m .batch) (m .at + k) ≡ some (getD dwords k 0)
-  at-dword k h =
-      let w = p .whole in
-      rw (g .windowed .batch, g .at, own-dword k h) (some-word (c .batch) (s .at + k) (omega arith))
+  pub total-is : total m ≡ lengthAt (c .batch) (s .at)
+  unfolding fetchedCommand
+  total-is = rw (g .windowed .batch, g .at)
 
-  pub fetches : (k : ℕ) → k < lengthAt (c .batch) (s .at) → (on : ℕ → Step) → fetched m k on ≡ on (getD (dwordsAt (c .batch) (s .at)) k 0)
-  unfolding fetched
-  fetches k h on = rw (at-dword k h)
+  pub dword-is : (k : ℕ) → k < lengthAt (c .batch) (s .at) → dword m k ≡ getD (dwordsAt (c .batch) (s .at)) k 0
+  dword-is k h = rw (g .windowed .batch, g .at) (sym (own-dword k h))
 
-  pub fetches-address : (k : ℕ) → k + 1 < lengthAt (c .batch) (s .at) → (on : ℕ → Step) → fetchedAddress m k on ≡ on (addressAt (dwordsAt (c .batch) (s .at)) k)
-  unfolding fetchedAddress addressAt
-  fetches-address k h on = fetches k (omega arith) _ ∙ fetches (k + 1) h _
-
-  pub fetches-words : (n k : ℕ) → k + n ≤ lengthAt (c .batch) (s .at) → (on : List ℕ → Step) → fetchedWords m k n on ≡ on (take n (drop k (dwordsAt (c .batch) (s .at))))
-  unfolding fetchedWords
-  fetches-words zero k h on = refl
-  fetches-words (suc n) k h on =
-      let l : k < length dwords = omega (arith, counted) in
-      fetches k (omega arith) _ ∙ fetches-words n (k + 1) (omega arith) (λ ws. on (getD dwords k 0 ∷ ws))
-      ∙ ap on (sym (rw (drop-cons dwords k 0 l, ← add-one k)))
+  pub address-is : (k : ℕ) → k + 1 < lengthAt (c .batch) (s .at) → address m k ≡ addressAt (dwordsAt (c .batch) (s .at)) k
+  unfolding addressAt
+  address-is k h = rw (dword-is k (omega arith), dword-is (k + 1) h)
 
   -- the header, as the table is asked
   pub header-is : getD (dwordsAt (c .batch) (s .at)) 0 0 ≡ headerAt (c .batch) (s .at)
   header-is = own-dword 0 (some-long (rowAt (c .batch) (s .at)) (headerAt (c .batch) (s .at))) ∙ ap (λ (i : ℕ). getD (c .batch) i 0) (add-zero (s .at))
 
   -- an address whose low dword allows no lowest bits
-  pub aligned : (k : ℕ) → k < lengthAt (c .batch) (s .at) → allowedAt (rowAt (c .batch) (s .at)) (dwordsAt (c .batch) (s .at)) k % 4 ≡ 0 → addressAt (dwordsAt (c .batch) (s .at)) k % 4 ≡ 0
+  pub aligned : (k : ℕ) → k < lengthAt (c .batch) (s .at) → allowedAt (rowAt (c .batch) (s .at)) (dwordsAt (c .batch) (s .at)) k % 4 ≡ 0
+      → addressAt (dwordsAt (c .batch) (s .at)) k % 4 ≡ 0
   unfolding addressAt bitWrong
   aligned k h e =
       let d = multiple-of-4 (getD dwords k 0) _ (not-false _ (p .bits k h)) e in

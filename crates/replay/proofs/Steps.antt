@@ -84,6 +84,12 @@ module _ (m : Machine) where
   words-fail (suc n) k zero on l h = fetch-fails k _ (omega arith)
   words-fail (suc n) k (suc j) on l h = fetch-then k _ (words-fail n (k + 1) j _ (le-of-suc-le-suc l) (omega arith))
 
+-- so many dwords are as many
+pub dwords-counted : (m : Machine) (n k : ℕ) → length (dwords m k n) ≡ n
+unfolding dwords
+dwords-counted m zero k = refl
+dwords-counted m (suc n) k = ap suc (dwords-counted m n (k + 1))
+
 -- the rows, as the streamer tells them apart
 pub data Kind (r : ℕ) : Type 0 where
   an-end : r ≡ 1 → Kind r
@@ -105,7 +111,7 @@ kind (suc (suc (suc (suc (suc (suc (suc zero))))))) = storing (inr (inr refl))
 kind (suc (suc (suc (suc (suc (suc (suc (suc r)))))))) = other (inr (omega arith))
 
 -- the rows that only advance use and store nothing
-no-operands : (m : Machine) → OtherRow (row m) → operands m ≡ 0
+pub no-operands : (m : Machine) → OtherRow (row m) → operands m ≡ 0
 unfolding operands
 no-operands m (inl e) = rw e
 no-operands m (inr l) = List·getD-eq-default (operandsByRow m) 0 l
