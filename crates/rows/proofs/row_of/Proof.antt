@@ -8,12 +8,6 @@ use borrow.Author.Needs.{needs}
 use Rattle.rows.proofs.row_of.Statement.{statement}
 use Rattle.rows.proofs.row_of.Tie as tie
 
-by-type-3 : tie.Need-returns-8
-by-type-3 c =
-    let n = c .before .match .rest in
-    c .row-of-type-3 .ensures
-    ∙ key-3 _ (search needs) (n .0 .0 .0 .0 .0 .0 .1) (n .0 .0 .0 .0 .0 .1) (n .0 .0 .0 .0 .1) (n .0 .0 .0 .1) (n .0 .0 .1) (n .0 .1) (n .1)
-
 pub row-of-spec : {M : Type 1} → statement M
 unfolding rows rowFrom
 row-of-spec =
@@ -22,4 +16,4 @@ row-of-spec =
     (λ c. key-0 _ _ (c .match .keys1) (lit< tt)) (λ c. key-0 _ _ (c .match .keys2) (lit< tt)) (λ c. key-0 _ _ (c .match .keys3) (lit< tt))
     (λ c. key-0 _ _ (c .match .keys4) (lit< tt)) (λ c. key-0 _ _ (c .match .keys5) (lit< tt)) (λ c. key-0 _ _ (c .match .keys6) (lit< tt))
     (λ c. key-0 _ _ (c .match .keys7) (lit< tt))
-    by-type-3)
+    (λ c. c .row-of-type-3 .ensures ∙ key-3 _ (search needs) (c .before .match .rest)))

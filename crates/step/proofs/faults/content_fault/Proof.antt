@@ -1,6 +1,5 @@
 -- `step::faults::content_fault` meets its contract: one law for each way out, in the order of the checks.
 -- Assumes nothing.
-use Prim.Native.Nat.{ℕ}
 use mathlib.Core.Path.{_≡_, sym, _∙_}
 use mathlib.Core.Bool.{false}
 use native.Mathlib.Omega.{arith}
