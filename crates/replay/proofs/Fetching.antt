@@ -46,7 +46,8 @@ pub record Agrees (c : Capture) (s : Cursor) (m : Machine) : Type 0 where
 
 -- a word in any of the windows can be loaded
 module _ (c : Capture) (s : Sound (listed (windowsOf c))) (m : Machine) (w : Windowed c m) (a : ℕ) (e : a % 4 ≡ 0) where
-  has-inside : (i : ℕ) → i < 3 → Inside (getD (listed (windowsOf c)) i noWindow) a 4 → (p : Place) × Has m p × (a ≡ addressOf (mapOf c) p)
+  has-inside : (i : ℕ) → i < 3 → Inside (getD (listed (windowsOf c)) i noWindow) a 4
+      → (p : Place) × Has m p × (a ≡ addressOf (mapOf c) p)
   unfolding windowsOf
   has-inside zero h i =
       let l = i .low in
@@ -123,7 +124,8 @@ module _ (c : Capture) (s : Cursor) (m : Machine) (p : Passed c s) (g : Agrees c
   header-is = own-dword 0 (some-long (rowAt (c .batch) (s .at)) (headerAt (c .batch) (s .at))) ∙ ap (λ (i : ℕ). getD (c .batch) i 0) (add-zero (s .at))
 
   -- an address whose low dword allows no lowest bits
-  pub aligned : (k : ℕ) → k < lengthAt (c .batch) (s .at) → allowedAt (rowAt (c .batch) (s .at)) (dwordsAt (c .batch) (s .at)) k % 4 ≡ 0
+  pub aligned : (k : ℕ) → k < lengthAt (c .batch) (s .at)
+      → allowedAt (rowAt (c .batch) (s .at)) (dwordsAt (c .batch) (s .at)) k % 4 ≡ 0
       → addressAt (dwordsAt (c .batch) (s .at)) k % 4 ≡ 0
   unfolding addressAt bitWrong
   aligned k h e =

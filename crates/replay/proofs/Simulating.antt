@@ -135,7 +135,8 @@ module _ (c : Capture) (sound : Sound (listed (windowsOf c))) (hardware : Hardwa
   abbrev Went : Base → Type 0
   Went b = (x : Effect) × (run ≡ goes x) × Agrees c (cursor (s .at + n) (s .level) b) (x .machine) × AllInScratch c (x .stored)
 
-  went : {e : Effect} (b : Base) → Stored c m e → run ≡ goes (record { machine = onward (total m) (e .machine); stored = e .stored }) → Went b
+  went : {e : Effect} (b : Base) → Stored c m e
+      → run ≡ goes (record { machine = onward (total m) (e .machine); stored = e .stored }) → Went b
   went {e} b t q = (
     record { machine = onward (total m) (e .machine); stored = e .stored },
     q,
@@ -171,13 +172,15 @@ module _ (c : Capture) (sound : Sound (listed (windowsOf c))) (hardware : Hardwa
   low-2 r (inr (inr e)) = rw e
 
   -- what a store's range says
-  in-scratch : (k : ℕ) → r ≡ k → {low bytes : ℕ} → Stores d k low bytes → low < n → Inside (windowsOf c .scratch) (addressAt d low) bytes
+  in-scratch : (k : ℕ) → r ≡ k → {low bytes : ℕ} → Stores d k low bytes → low < n
+      → Inside (windowsOf c .scratch) (addressAt d low) bytes
   in-scratch k e {low} {bytes} t l =
       stores-in-scratch (windowsOf c) k d low bytes t (ap₂ lengthRight (sym e) (header-is c s m p g) ∙ p .right)
       (ap (λ (i : ℕ). rangeWrong (windowsOf c) i d low) (sym e) ∙ p .ranges low l)
 
   -- words stored in scratch, at the address in the dwords `low` and `low + 1`
-  storing : (b : Base) → StoringRow (row m) → (low : ℕ) {bytes : ℕ} → low < n → storesAt m ≡ addressAt d low → allowedAt r d low % 4 ≡ 0
+  storing : (b : Base) → StoringRow (row m) → (low : ℕ) {bytes : ℕ} → low < n → storesAt m ≡ addressAt d low
+      → allowedAt r d low % 4 ≡ 0
       → Inside (windowsOf c .scratch) (addressAt d low) bytes → bytes ≡ 4 * length (toStore hardware done m) → Went b
   storing b k low l a free i many =
       let ws = toStore hardware done m in
@@ -285,7 +288,8 @@ module _ (c : Capture) (sound : Sound (listed (windowsOf c))) (hardware : Hardwa
   moved (goes-on not-1 not-2) = others _ not-1 not-2 (kind (row m))
 
 -- THE STEP
-pub simulated : (c : Capture) → Sound (listed (windowsOf c)) → (hardware : Hardware) (done : ℕ) (s : Cursor) (m : Machine) {k : Command} {a : After} → Agrees c s m → stepOf c s ≡ Taken k a
+pub simulated : (c : Capture) → Sound (listed (windowsOf c))
+    → (hardware : Hardware) (done : ℕ) (s : Cursor) (m : Machine) {k : Command} {a : After} → Agrees c s m → stepOf c s ≡ Taken k a
     → Simulated c hardware done m k a
 simulated c sound hardware done s m g e =
     let t = took c s e in

@@ -156,7 +156,8 @@ module _ (map : Map) (hardware : Hardware) (done : ℕ) (m : Machine) where
   unknown-fails e = fetch-then m 0 _ (rw (eq-eqb (rowOf (dword m 0)) rowCount (sym (row-is m) ∙ e)))
 
 -- what holds of a whole command, of an unknown header and of a command that leaves the batch holds of every command
-pub whole-or : {A : Type 0} (m : Machine) → (Whole m → A) → (row m ≡ rowCount → A) → (length (m .batch) ≤ m .at + operands m → A) → A
+pub whole-or : {A : Type 0} (m : Machine) → (Whole m → A) → (row m ≡ rowCount → A) → (length (m .batch) ≤ m .at + operands m → A)
+    → A
 whole-or m whole unknown leaves =
     ⊎-elim (λ e. unknown (eqb-true _ _ e))
     (λ e.
@@ -176,7 +177,8 @@ module _ (map : Map) (hardware : Hardware) (done : ℕ) (m : Machine) (w : Whole
   unfolding exec operands
   step-start e = let i = rw e at (w .inside) in front ∙ rw e (address-gives m 1 _ (omega arith))
 
-  pub step-registers : row m ≡ 3 → step map hardware done m ≡ advance (total m) (withRegisters m (setPairs (m .registers) (dwords m 1 (2 * pairs m))))
+  pub step-registers : row m ≡ 3
+      → step map hardware done m ≡ advance (total m) (withRegisters m (setPairs (m .registers) (dwords m 1 (2 * pairs m))))
   unfolding exec operands
   step-registers e = let i = rw e at (w .inside) in front ∙ rw e (words-give m _ 1 _ (omega arith))
 
@@ -189,11 +191,13 @@ module _ (map : Map) (hardware : Hardware) (done : ℕ) (m : Machine) (w : Whole
   abbrev storingAt : ℕ → List ℕ → Step
   storingAt a ws = stores (total m) (storeWords map m a ws)
 
-  pub step-stores : StoringRow (row m) → step map hardware done m ≡ stores (total m) (storeWords map m (storesAt m) (toStore hardware done m))
+  pub step-stores : StoringRow (row m)
+      → step map hardware done m ≡ stores (total m) (storeWords map m (storesAt m) (toStore hardware done m))
   unfolding exec operands toStore storesAt storeWords pipe dwords fetchedWords
   step-stores r = front ∙ by r
     where
-      with-post-sync : (a b : Bool) → eqb (postSync m) 0 ≡ a → eqb (postSync m) 1 ≡ b → m .at + cond a 1 (cond b 5 3) < length (m .batch)
+      with-post-sync : (a b : Bool) → eqb (postSync m) 0 ≡ a → eqb (postSync m) 1 ≡ b
+          → m .at + cond a 1 (cond b 5 3) < length (m .batch)
           → fetched m 1 (pipe map hardware done m (total m))
           ≡ storingAt (address m 2) (cond a [] (cond b (dword m 4 ∷ dword m 5 ∷ []) (hardware done .low ∷ hardware done .high ∷ [])))
       with-post-sync true b p q i = fetch-gives m 1 _ i ∙ rw p
@@ -202,7 +206,8 @@ module _ (map : Map) (hardware : Hardware) (done : ℕ) (m : Machine) (w : Whole
           ∙ rw (p, q) (address-gives m 2 _ (omega arith) ∙ words-give m 2 4 (storingAt (address m 2)) (omega arith))
       with-post-sync false false p q i = fetch-gives m 1 _ (omega arith) ∙ rw (p, q) (address-gives m 2 _ (omega arith))
 
-      by : StoringRow (row m) → exec map hardware done m (dword m 0) (row m) (total m) ≡ storingAt (storesAt m) (toStore hardware done m)
+      by : StoringRow (row m)
+          → exec map hardware done m (dword m 0) (row m) (total m) ≡ storingAt (storesAt m) (toStore hardware done m)
       by (inl e) =
           let i = rw e at (w .inside) in
           rw e (address-gives m 1 _ (omega arith) ∙ words-give m (total m - 3) 3 (storingAt (address m 1)) (omega arith))

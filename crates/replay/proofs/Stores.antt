@@ -38,7 +38,8 @@ module _ (at address : ℕ) (words : List ℕ) where
       let d : (address - at) / 4 < length words = ltb-true _ _ (and-right (eqb ((address - at) % 4) 0) _ r) in
       record { low = a; high = omega arith }
 
-  pub found : at ≤ address → (address - at) % 4 ≡ 0 → (address - at) / 4 < length words → wordAt at words address ≡ some ((address - at) / 4)
+  pub found : at ≤ address → (address - at) % 4 ≡ 0 → (address - at) / 4 < length words
+      → wordAt at words address ≡ some ((address - at) / 4)
   unfolding wordAt
   found a b d = rw (le-leb _ _ a, eq-eqb _ 0 b, lt-ltb _ _ d)
 
@@ -47,7 +48,8 @@ module _ (at address : ℕ) (words : List ℕ) where
   unfound n = ⊎-elim (λ e. absurd (n (held e))) (λ e. ap (λ t. cond t (some ((address - at) / 4)) none) e) (either test)
 
 -- two of sound windows hold no word together
-apart : (ws : List Window) → Sound ws → (i j : ℕ) → i < j → j < length ws → (a : ℕ) → Inside (getD ws i noWindow) a 4 → Inside (getD ws j noWindow) a 4 → ⊥
+apart : (ws : List Window) → Sound ws → (i j : ℕ) → i < j → j < length ws → (a : ℕ) → Inside (getD ws i noWindow) a 4
+    → Inside (getD ws j noWindow) a 4 → ⊥
 apart ws s i j h k a p q = never-both (both-share _ _ a 4 (omega arith) p q) (no-two-at shareByte noWindow ws (s .apart) i j h k)
 
 -- what stores leave as it was: all of the machine but the words of scratch
@@ -60,7 +62,8 @@ pub record Stored (c : Capture) (m : Machine) (e : Effect) : Type 0 where
 
 module _ (c : Capture) (s : Sound (listed (windowsOf c))) where
   -- where the streamer finds it
-  pub scratch-place : (m : Machine) → Windowed c m → (a : ℕ) → a % 4 ≡ 0 → InScratch c a → placeOf (mapOf c) m a ≡ scratchWord ((a - c .scratchAt) / 4)
+  pub scratch-place : (m : Machine) → Windowed c m → (a : ℕ) → a % 4 ≡ 0 → InScratch c a
+      → placeOf (mapOf c) m a ≡ scratchWord ((a - c .scratchAt) / 4)
   unfolding placeOf windowsOf
   scratch-place m w a e i =
       let l = i .low in
@@ -80,7 +83,8 @@ module _ (c : Capture) (s : Sound (listed (windowsOf c))) where
   stored-word m v a w e i = rw (scratch-place m v a e i)
 
   -- and a row of stores in scratch never fails, and stores nowhere else
-  pub stored-words : (ws : List ℕ) (m : Machine) → Windowed c m → (a : ℕ) → a % 4 ≡ 0 → Inside (windowsOf c .scratch) a (4 * length ws)
+  pub stored-words : (ws : List ℕ) (m : Machine) → Windowed c m → (a : ℕ) → a % 4 ≡ 0
+      → Inside (windowsOf c .scratch) a (4 * length ws)
       → (e : Effect) × (storeWords (mapOf c) m a ws ≡ some e) × Stored c m e
   unfolding storeWords
   stored-words [] m w a e i = (record { machine = m; stored = [] }, refl, record { at = refl; second = refl; kept = refl; windowed = w; inside = tt })

@@ -36,7 +36,8 @@ pub record Streams (c : Capture) (hardware : Hardware) (done : ℕ) (past : List
   pub fair : AllFair c moments
   pub returns : AllReturn (c .batch) past m moments
 
-follows : (left room : ℕ) (c : Capture) → Sound (listed (windowsOf c)) → (hardware : Hardware) (done : ℕ) (past : List Moment) (s : Cursor) (m : Machine) (o : Outcome)
+follows : (left room : ℕ) (c : Capture) → Sound (listed (windowsOf c))
+    → (hardware : Hardware) (done : ℕ) (past : List Moment) (s : Cursor) (m : Machine) (o : Outcome)
     → stepOf c s ≡ o → Agrees c s m → Origin c past s → endOf (cut room (trace left c s o)) ≡ Pass
     → Streams c hardware done past m (commandsOf (cut room (trace left c s o)))
 unfolding trace cut commandsOf endOf run
@@ -67,7 +68,8 @@ follows (suc left) (suc room) c w hardware done past s m (Taken k (To t)) e g a 
     }
 
 -- THE RUN, for every starting base of the walk
-pub streams : (base : Base) (c : Capture) (room : ℕ) → endOf (walk base c room) ≡ Pass → (kept : Option ℕ) (registers : ℕ → ℕ) (scratch : List ℕ)
+pub streams : (base : Base) (c : Capture) (room : ℕ) → endOf (walk base c room) ≡ Pass
+    → (kept : Option ℕ) (registers : ℕ → ℕ) (scratch : List ℕ)
     → length scratch ≡ c .scratchBytes / 4 → (hardware : Hardware)
     → Streams c hardware 0 [] (atStart c kept registers scratch) (commandsOf (walk base c room))
 streams base c room e kept registers scratch l hardware =

@@ -89,7 +89,8 @@ abbrev keyed : ℕ → List Row → Bool
 keyed key rs = some (λ r. eqb key (r .key)) rs
 
 -- which none has, where the key is told in units and is none of theirs
-others-unkeyed : (before : Type 0) (unit key : ℕ) (rs : List Row) → 0 < unit → Others before unit rs key → before × (keyed (key * unit) rs ≡ false)
+others-unkeyed : (before : Type 0) (unit key : ℕ) (rs : List Row) → 0 < unit → Others before unit rs key
+    → before × (keyed (key * unit) rs ≡ false)
 unfolding some
 others-unkeyed before unit key [] h o = (o, refl)
 others-unkeyed before unit key (r ∷ rs) h o =
@@ -180,11 +181,13 @@ pub right-exactly : (r header f : ℕ) → theRow r .total ≡ exactly f → eqb
 unfolding lengthRight
 right-exactly r header f e = rw (e, low-byte header)
 
-pub right-store : (r header : ℕ) → theRow r .total ≡ byBit 21 2 3 → eqb (header % 256) (cond (bit header 21) 3 2) ≡ lengthRight r header
+pub right-store : (r header : ℕ) → theRow r .total ≡ byBit 21 2 3
+    → eqb (header % 256) (cond (bit header 21) 3 2) ≡ lengthRight r header
 unfolding lengthRight
 right-store r header e = rw (e, low-byte header)
 
-pub right-groups : (r header size most : ℕ) → theRow r .total ≡ groups most → groupSize r ≡ size → groupsRight (header % 256) size most ≡ lengthRight r header
+pub right-groups : (r header size most : ℕ) → theRow r .total ≡ groups most → groupSize r ≡ size
+    → groupsRight (header % 256) size most ≡ lengthRight r header
 unfolding lengthRight groupsRight
 right-groups r header size most e g = rw (e, g, low-byte header)
 

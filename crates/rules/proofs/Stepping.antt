@@ -42,8 +42,10 @@ pub record Passed (c : Capture) (s : Cursor) : Type 0 where
   pub whole : s .at + lengthAt (c .batch) (s .at) ≤ length (c .batch)
   pub bits : (k : ℕ) → k < lengthAt (c .batch) (s .at) → bitWrong (rowAt (c .batch) (s .at)) (dwordsAt (c .batch) (s .at)) k ≡ false
   pub unnested : nested (rowAt (c .batch) (s .at)) (s .level) ≡ false
-  pub values : (k : ℕ) → k < lengthAt (c .batch) (s .at) → valueWrong (rowAt (c .batch) (s .at)) (dwordsAt (c .batch) (s .at)) k ≡ false
-  pub ranges : (k : ℕ) → k < lengthAt (c .batch) (s .at) → rangeWrong (windowsOf c) (rowAt (c .batch) (s .at)) (dwordsAt (c .batch) (s .at)) k ≡ false
+  pub values : (k : ℕ) → k < lengthAt (c .batch) (s .at)
+      → valueWrong (rowAt (c .batch) (s .at)) (dwordsAt (c .batch) (s .at)) k ≡ false
+  pub ranges : (k : ℕ) → k < lengthAt (c .batch) (s .at)
+      → rangeWrong (windowsOf c) (rowAt (c .batch) (s .at)) (dwordsAt (c .batch) (s .at)) k ≡ false
   pub based : baseMissing (pointerOf (rowAt (c .batch) (s .at)) (dwordsAt (c .batch) (s .at))) (s .base) ≡ false
   pub held : ofStructure structureNowhere (here c s) ≡ Pass
   pub structureBits : ofStructure structureBit (here c s) ≡ Pass
@@ -68,11 +70,13 @@ pub took : (c : Capture) (s : Cursor) {k : Command} {a : After} → stepOf c s �
 unfolding stepOf
 took c s {k} {a} e = by (firstFault stepChecks (here c s)) refl e
   where
-    by : (v : Verdict) → firstFault stepChecks (here c s) ≡ v → outcomeOf v (commandAt (c .batch) s) (moveAt c s) ≡ Taken k a → Took c s k a
+    by : (v : Verdict) → firstFault stepChecks (here c s) ≡ v → outcomeOf v (commandAt (c .batch) s) (moveAt c s) ≡ Taken k a
+        → Took c s k a
     by Pass p q = record { passes = p; command = taken-command q; move = taken-after q }
     by (Fails f) p q = absurd (never-taken q)
 
-pub takes : (c : Capture) (s : Cursor) → firstFault stepChecks (here c s) ≡ Pass → stepOf c s ≡ Taken (commandAt (c .batch) s) (moveAt c s)
+pub takes : (c : Capture) (s : Cursor) → firstFault stepChecks (here c s) ≡ Pass
+    → stepOf c s ≡ Taken (commandAt (c .batch) s) (moveAt c s)
 unfolding stepOf
 takes c s e = rw e
 

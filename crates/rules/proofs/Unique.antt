@@ -23,13 +23,16 @@ use Rattle.rules.specs.Walk.{Run, commandsOf, endOf, answerOf}
 use Rattle.rules.specs.Records.{Checked, wordsOf, wordsFor}
 use Rattle.rules.specs.File.{FileRead, Judged}
 
-pub one-check : {base : Base} {c : Capture} {old new new′ : List ℕ} {r r′ : Answer} → Checked base c old r new → Checked base c old r′ new′ → (r ≡ r′) × (new ≡ new′)
+pub one-check : {base : Base} {c : Capture} {old new new′ : List ℕ} {r r′ : Answer} → Checked base c old r new
+    → Checked base c old r′ new′ → (r ≡ r′) × (new ≡ new′)
 one-check p q = (p .answers ∙ sym (q .answers), p .written ∙ sym (q .written))
 
-pub one-reading : {file batch state b b′ s s′ : List ℕ} {r r′ : Opened} → FileRead file batch state r b s → FileRead file batch state r′ b′ s′ → (r ≡ r′) × (b ≡ b′) × (s ≡ s′)
+pub one-reading : {file batch state b b′ s s′ : List ℕ} {r r′ : Opened} → FileRead file batch state r b s
+    → FileRead file batch state r′ b′ s′ → (r ≡ r′) × (b ≡ b′) × (s ≡ s′)
 one-reading p q = (p .answers ∙ sym (q .answers), p .batchFilled ∙ sym (q .batchFilled), p .stateFilled ∙ sym (q .stateFilled))
 
-pub one-judgement : {base : Base} {file batch state records b b′ s s′ w w′ : List ℕ} {r r′ : Answer} → Judged base file batch state records r b s w → Judged base file batch state records r′ b′ s′ w′
+pub one-judgement : {base : Base} {file batch state records b b′ s s′ w w′ : List ℕ} {r r′ : Answer}
+    → Judged base file batch state records r b s w → Judged base file batch state records r′ b′ s′ w′
     → (r ≡ r′) × (b ≡ b′) × (s ≡ s′) × (w ≡ w′)
 one-judgement p q =
     (p .answers ∙ sym (q .answers), p .batchFilled ∙ sym (q .batchFilled), p .stateFilled ∙ sym (q .stateFilled), p .written ∙ sym (q .written))

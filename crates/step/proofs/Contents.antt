@@ -40,7 +40,8 @@ found-below bad n e = omega (arith, first-found bad 0 n e .below)
 
 -- the ways out of the checks of the dwords
 module _ (w : Windows) (r : ℕ) (d : List ℕ) (at : ℕ) (level : Level) where
-  pub bits-fail : {k : ℕ} → firstOf (wrong Bits w r d) (length d) ≡ At k → Fails (fault BitNotAllowed batchWindow (at + k)) ≡ contentOf w r d at level
+  pub bits-fail : {k : ℕ} → firstOf (wrong Bits w r d) (length d) ≡ At k
+      → Fails (fault BitNotAllowed batchWindow (at + k)) ≡ contentOf w r d at level
   unfolding contentOf wrong wrongAt bitWrong allowedOf allowedAt
   bits-fail e = rw e
 
@@ -50,12 +51,14 @@ module _ (w : Windows) (r : ℕ) (d : List ℕ) (at : ℕ) (level : Level) where
     nested-fails n = rw (b, n)
 
     module _ (n : nested r level ≡ false) where
-      pub values-fail : {k : ℕ} → firstOf (wrong Values w r d) (length d) ≡ At k → Fails (fault ValueBroken batchWindow (at + k)) ≡ contentOf w r d at level
+      pub values-fail : {k : ℕ} → firstOf (wrong Values w r d) (length d) ≡ At k
+          → Fails (fault ValueBroken batchWindow (at + k)) ≡ contentOf w r d at level
       unfolding contentOf wrong wrongAt bitWrong allowedOf allowedAt valueWrong
       values-fail e = rw (b, n, e)
 
       module _ (v : firstOf (wrong Values w r d) (length d) ≡ Nothing) where
-        pub ranges-fail : {k : ℕ} → firstOf (wrong Ranges w r d) (length d) ≡ At k → Fails (fault RangeOutside batchWindow (at + k)) ≡ contentOf w r d at level
+        pub ranges-fail : {k : ℕ} → firstOf (wrong Ranges w r d) (length d) ≡ At k
+            → Fails (fault RangeOutside batchWindow (at + k)) ≡ contentOf w r d at level
         unfolding contentOf wrong wrongAt bitWrong allowedOf allowedAt valueWrong rangeWrong accessAt
         ranges-fail e = rw (b, n, v, e)
 
@@ -93,7 +96,8 @@ passes-clear w r d at level e =
     each b v x Ranges = x
 
 -- one check, and the next only where it passes
-pub tried-or : {A : Type 0} (check : A → Verdict) (checks : List (A → Verdict)) (a : A) → tried (check ∷ checks) Pass a ≡ orElse (check a) (firstFault checks a)
+pub tried-or : {A : Type 0} (check : A → Verdict) (checks : List (A → Verdict)) (a : A)
+    → tried (check ∷ checks) Pass a ≡ orElse (check a) (firstFault checks a)
 unfolding tried
 tried-or check checks a = by (check a)
   where
@@ -113,7 +117,8 @@ module _ (c : Capture) (place : ℕ) (p : Pointer) (base : Base) where
   unfolding structuralOf
   unpointed e = rw e
 
-  pub unbased : {kind : Kind} {offset : ℕ} → p ≡ PointsTo kind offset → base ≡ Unset → Fails (fault BaseNeverSet batchWindow place) ≡ structuralOf c place p base
+  pub unbased : {kind : Kind} {offset : ℕ} → p ≡ PointsTo kind offset → base ≡ Unset
+      → Fails (fault BaseNeverSet batchWindow place) ≡ structuralOf c place p base
   unfolding structuralOf
   unbased e b = rw (e, b)
 

@@ -49,7 +49,8 @@ module _ (w : Windows) (batch : List ℕ) (at : ℕ) (level : Level) where
   unknown-look h = rw (le-leb _ _ h)
 
   module _ (k : rowAt batch at < rowCount) where
-    pub misfit-look : lengthRight (rowAt batch at) (headerAt batch at) ≡ false → Wrong (fault WrongLength batchWindow at) ≡ lookOf w batch at level
+    pub misfit-look : lengthRight (rowAt batch at) (headerAt batch at) ≡ false
+        → Wrong (fault WrongLength batchWindow at) ≡ lookOf w batch at level
     unfolding lookOf ownOf
     misfit-look e = rw (lt-leb _ _ k, e)
 
@@ -59,16 +60,19 @@ module _ (w : Windows) (batch : List ℕ) (at : ℕ) (level : Level) where
       past-look h = rw (lt-leb _ _ k, r, lt-ltb _ _ h)
 
       module _ (l : at + lengthAt batch at ≤ length batch) where
-        pub content-look : {f : Fault} → contentOf w (rowAt batch at) (dwordsAt batch at) at level ≡ Fails f → Wrong f ≡ lookOf w batch at level
+        pub content-look : {f : Fault} → contentOf w (rowAt batch at) (dwordsAt batch at) at level ≡ Fails f
+            → Wrong f ≡ lookOf w batch at level
         unfolding lookOf ownOf
         content-look e = rw (lt-leb _ _ k, r, le-ltb _ _ l, e)
 
-        pub whole-look : contentOf w (rowAt batch at) (dwordsAt batch at) at level ≡ Pass → Whole (lengthAt batch at) ≡ lookOf w batch at level
+        pub whole-look : contentOf w (rowAt batch at) (dwordsAt batch at) at level ≡ Pass
+            → Whole (lengthAt batch at) ≡ lookOf w batch at level
         unfolding lookOf ownOf
         whole-look e = rw (lt-leb _ _ k, r, le-ltb _ _ l, e)
 
 -- what the code calls the row and the command's dwords
-pub content-same : (w : Windows) (batch : List ℕ) (at : ℕ) (level : Level) {row len : ℕ} → row ≡ rowAt batch at → len ≡ lengthAt batch at
+pub content-same : (w : Windows) (batch : List ℕ) (at : ℕ) (level : Level) {row len : ℕ} → row ≡ rowAt batch at
+    → len ≡ lengthAt batch at
     → contentOf w row (take (at + len - at) (drop at batch)) at level ≡ contentOf w (rowAt batch at) (dwordsAt batch at) at level
 content-same w batch at level er el = rw (er, dwords-are batch at el)
 
@@ -79,7 +83,8 @@ rest-is batch at = take-all (length batch - at) (drop at batch) (omega (arith, l
 header-first : (batch : List ℕ) (at : ℕ) → getD (drop at batch) 0 0 ≡ headerAt batch at
 header-first batch at = getD-drop at batch 0 0 ∙ ap (λ (i : ℕ). getD batch i 0) (omega arith)
 
-length-there : (batch : List ℕ) (at : ℕ) {row : ℕ} → row ≡ rowAt batch at → lengthOf row (getD (drop at batch) 0 0) ≡ lengthAt batch at
+length-there : (batch : List ℕ) (at : ℕ) {row : ℕ} → row ≡ rowAt batch at
+    → lengthOf row (getD (drop at batch) 0 0) ≡ lengthAt batch at
 length-there batch at er = rw (header-first batch at, er)
 
 -- the ways out of the quick look
@@ -129,7 +134,8 @@ pub record Looked (w : Windows) (batch : List ℕ) (at : ℕ) (level : Level) (n
   pub passes : contentOf w (rowAt batch at) (dwordsAt batch at) at level ≡ Pass
   pub counted : n ≡ lengthAt batch at
 
-pub looked-whole : (w : Windows) (batch : List ℕ) (at : ℕ) (level : Level) {n : ℕ} → lookOf w batch at level ≡ Whole n → Looked w batch at level n
+pub looked-whole : (w : Windows) (batch : List ℕ) (at : ℕ) (level : Level) {n : ℕ} → lookOf w batch at level ≡ Whole n
+    → Looked w batch at level n
 unfolding lookOf ownOf
 looked-whole w batch at level e =
     let look = whole-by (ownOf w batch at level) (lengthAt batch at) e in
@@ -156,7 +162,8 @@ unfolding freeFrom
 free-of bad k zero h = refl
 free-of bad k (suc n) h = rw (h k (omega arith) (omega arith)) (free-of bad (k + 1) n (λ i a b. h i (omega arith) (omega arith)))
 
-nothing-found : (w : Windows) (r : ℕ) (d : List ℕ) → ((what : Sought) → firstOf (wrong what w r d) (length d) ≡ Nothing) → cleanOf w r d ≡ true
+nothing-found : (w : Windows) (r : ℕ) (d : List ℕ) → ((what : Sought) → firstOf (wrong what w r d) (length d) ≡ Nothing)
+    → cleanOf w r d ≡ true
 unfolding faulty cleanOf wrong wrongAt allowedOf allowedAt bitWrong valueWrong accessAt rangeWrong
 nothing-found w r d h = free-of (faulty w r d) 0 (length d) (λ i a b. rw (none Bits i a b, none Values i a b, none Ranges i a b))
   where
@@ -186,6 +193,7 @@ module _ {w : Windows} {batch state : List ℕ} (s : Cursor) (f : Fitted w batch
   pub own-passes : {n : ℕ} → Looked w batch (s .at) (s .level) n → own (captured w batch state) s ≡ Pass
   own-passes l = rw (fitted f) (l .own)
 
-  pub looked-wrong : {g : Fault} → s .at < length batch → lookOf w batch (s .at) (s .level) ≡ Wrong g → Refused g ≡ stepOf (captured w batch state) s
+  pub looked-wrong : {g : Fault} → s .at < length batch → lookOf w batch (s .at) (s .level) ≡ Wrong g
+      → Refused g ≡ stepOf (captured w batch state) s
   unfolding lookOf
   looked-wrong a e = own-fails (captured w batch state) s a (rw (fitted f) (wrong-by (ownOf w batch (s .at) (s .level)) (lengthAt batch (s .at)) e))

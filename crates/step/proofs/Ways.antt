@@ -59,7 +59,8 @@ module _ (c : Capture) (s : Cursor) where
   abbrev pub structural : Verdict
   structural = structuralOf c (s .at + 1) (pointerOf (rowAt (c .batch) (s .at)) (dwordsAt (c .batch) (s .at))) (s .base)
 
-  counted : s .at + lengthAt (c .batch) (s .at) ≤ length (c .batch) → length (dwordsAt (c .batch) (s .at)) ≡ lengthAt (c .batch) (s .at)
+  counted : s .at + lengthAt (c .batch) (s .at) ≤ length (c .batch)
+      → length (dwordsAt (c .batch) (s .at)) ≡ lengthAt (c .batch) (s .at)
   unfolding dwordsAt
   counted l = length-take-le (lengthAt (c .batch) (s .at)) (drop (s .at) (c .batch)) (omega (arith, length-drop (s .at) (c .batch)))
 
@@ -88,7 +89,8 @@ module _ (c : Capture) (s : Cursor) where
   structurals = refl
 
   -- four checks, tried in order
-  four : (k l m n : Here → Verdict) (rest : List (Here → Verdict)) → firstFault (k ∷ l ∷ m ∷ n ∷ rest) h ≡ orElse (k h) (orElse (l h) (orElse (m h) (orElse (n h) (firstFault rest h))))
+  four : (k l m n : Here → Verdict) (rest : List (Here → Verdict))
+      → firstFault (k ∷ l ∷ m ∷ n ∷ rest) h ≡ orElse (k h) (orElse (l h) (orElse (m h) (orElse (n h) (firstFault rest h))))
   four k l m n rest =
       tried-or k (l ∷ m ∷ n ∷ rest) h
       ∙ ap (orElse (k h)) (tried-or l (m ∷ n ∷ rest) h ∙ ap (orElse (l h)) (tried-or m (n ∷ rest) h ∙ ap (orElse (m h)) (tried-or n rest h)))
@@ -144,13 +146,16 @@ unfolding moveFrom moveOf windowsOf
 moved c s r d next = refl
 
 -- the code's numbers are those of the definitions: the row, the length, and the command's own dwords
-pub length-is : (batch : List ℕ) (at : ℕ) {row len : ℕ} → row ≡ rowAt batch at → len ≡ lengthOf row (headerAt batch at) → len ≡ lengthAt batch at
+pub length-is : (batch : List ℕ) (at : ℕ) {row len : ℕ} → row ≡ rowAt batch at → len ≡ lengthOf row (headerAt batch at)
+    → len ≡ lengthAt batch at
 length-is batch at er el = el ∙ ap (λ (r : ℕ). lengthOf r (headerAt batch at)) er
 
-pub right-is : (batch : List ℕ) (at : ℕ) {row : ℕ} {t u : Bool} → row ≡ rowAt batch at → t ≡ lengthRight row (headerAt batch at) → t ≡ u → lengthRight (rowAt batch at) (headerAt batch at) ≡ u
+pub right-is : (batch : List ℕ) (at : ℕ) {row : ℕ} {t u : Bool} → row ≡ rowAt batch at → t ≡ lengthRight row (headerAt batch at)
+    → t ≡ u → lengthRight (rowAt batch at) (headerAt batch at) ≡ u
 right-is batch at er et e = ap (λ (r : ℕ). lengthRight r (headerAt batch at)) (sym er) ∙ sym et ∙ e
 
-pub dwords-are : (batch : List ℕ) (at : ℕ) {len : ℕ} → len ≡ lengthAt batch at → take (at + len - at) (drop at batch) ≡ dwordsAt batch at
+pub dwords-are : (batch : List ℕ) (at : ℕ) {len : ℕ} → len ≡ lengthAt batch at
+    → take (at + len - at) (drop at batch) ≡ dwordsAt batch at
 unfolding dwordsAt
 dwords-are batch at e = rw (add-sub-cancel-left, e)
 
@@ -191,11 +196,13 @@ groupless r header h e =
     (or-cases (ltb 0 (groupSize r)) _ (at-each (λ k. ltb 0 (groupSize k) || isOne (theRow k .total)) rowCount groupless-tested r h)))
 
 -- so that the search's groups have dwords
-pub short : (batch : List ℕ) (at : ℕ) {row len : ℕ} → row < rowCount → len ≡ lengthOf row (headerAt batch at) → groupSize row ≡ 0 → length (take (at + len - at) (drop at batch)) ≤ 1
+pub short : (batch : List ℕ) (at : ℕ) {row len : ℕ} → row < rowCount → len ≡ lengthOf row (headerAt batch at) → groupSize row ≡ 0
+    → length (take (at + len - at) (drop at batch)) ≤ 1
 short batch at {row} {len} h el e =
     let n = groupless row (headerAt batch at) h e in
     omega (arith, length-take (at + len - at) (drop at batch))
 
 -- and the command's end is no more than the batch's
-pub part-below : (batch : List ℕ) (at len : ℕ) → at + len ≤ length batch → at + length (take (at + len - at) (drop at batch)) ≤ length batch
+pub part-below : (batch : List ℕ) (at len : ℕ) → at + len ≤ length batch
+    → at + length (take (at + len - at) (drop at batch)) ≤ length batch
 part-below batch at len h = omega (arith, length-take (at + len - at) (drop at batch))

@@ -47,7 +47,8 @@ dword c = c .before .before .before
 abbrev test : tie.Start Inv-loop μ-loop Inv-groups μ-groups → ℕ → Bool
 test s = wrong (s .args .what) (s .args .w) (s .args .row) (s .args .command .now)
 
-header-seen : (c : tie.After-wrong-at Inv-loop μ-loop Inv-groups μ-groups) → test (c .before .before .before .before) 0 ≡ c .wrong-at .result
+header-seen : (c : tie.After-wrong-at Inv-loop μ-loop Inv-groups μ-groups)
+    → test (c .before .before .before .before) 0 ≡ c .wrong-at .result
 header-seen c =
     wrong-at-spot _ _ _ (c .before .before .before .before .args .command .now) 0 0 (header-spot _) ∙ sym (c .wrong-at .ensures)
 
@@ -60,7 +61,8 @@ seen c =
     ∙ sym (c .wrong-at2 .ensures)
 
 -- the masks of the row are lent
-own-masks : (s : tie.Start Inv-loop μ-loop Inv-groups μ-groups) → getD (s .args .masks .now) (s .args .row) [] ≡ getD maskTable (s .args .row) []
+own-masks : (s : tie.Start Inv-loop μ-loop Inv-groups μ-groups)
+    → getD (s .args .masks .now) (s .args .row) [] ≡ getD maskTable (s .args .row) []
 own-masks s = ap (λ (l : List (List ℕ)). getD l (s .args .row) []) (s .pre .2)
 
 -- a group that is reached has dwords

@@ -13,7 +13,8 @@ abbrev start : tie.After-some-unaligned → tie.Start
 start c = c .before .before .before
 
 -- what has passed before the second check, the third and the fourth
-counts-right : (c : tie.After-some-unaligned) → countsWrong windowLimit (start c .args .batch-count) (start c .args .state-count) ≡ false
+counts-right : (c : tie.After-some-unaligned)
+    → countsWrong windowLimit (start c .args .batch-count) (start c .args .state-count) ≡ false
 counts-right c = sym (c .before .before .counts-wrong .ensures) ∙ c .before .if1 .left
 
 aligned : (c : tie.After-some-too-high) → some unaligned (listed (start (c .before .before) .args .w)) ≡ false

@@ -47,7 +47,8 @@ fitting : (c : tie.After-length-of)
     ≡ true
 fitting c = right (tested c) (not-false _ (c .before .if2 .left))
 
-counted : (c : tie.After-length-of) → c .length-of .result ≡ lengthAt (start (tested c) .args .batch .now) (start (tested c) .args .at)
+counted : (c : tie.After-length-of)
+    → c .length-of .result ≡ lengthAt (start (tested c) .args .batch .now) (start (tested c) .args .at)
 counted c = length-is (start (tested c) .args .batch .now) (start (tested c) .args .at) (row-is (tested c)) (c .length-of .ensures)
 
 within : (c : tie.After-content-fault)
