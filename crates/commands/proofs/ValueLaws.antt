@@ -63,12 +63,14 @@ module _ (a b c d : ℕ) where
   by-holes h i j k n = simp (le-ltb 4 a h, le-ltb 4 b i, le-ltb 4 c j, le-ltb 4 d k, ne-eqb a 0 n)
 
 -- an element's format, of the table as it is lent
-pub unknown-format : (table : List ℕ) (code : ℕ) → table ≡ surfaceFormats → not (not (eqb (getD table code 0) 0)) ≡ eqb (formatBits code) 0
+pub unknown-format : (table : List ℕ) (code : ℕ) → table ≡ surfaceFormats
+    → not (not (eqb (getD table code 0) 0)) ≡ eqb (formatBits code) 0
 unfolding formatBits
 unknown-format table code e = rw (e, Bool·not-not)
 
 -- a primitive's dwords behind the first: 3, 5 and 6
-pub behind-first : (d : List ℕ) (k j w : ℕ) → getD d 1 0 / 512 % 2 ≡ 1 → (j ≡ 1 → ⊥) → (w ≡ 0 → ⊥) → (j ≡ 3 → ⊥) → (j ≡ 5 → ⊥) → eqb j 6 ≡ primitiveRule d k j w
+pub behind-first : (d : List ℕ) (k j w : ℕ) → getD d 1 0 / 512 % 2 ≡ 1 → (j ≡ 1 → ⊥) → (w ≡ 0 → ⊥) → (j ≡ 3 → ⊥) → (j ≡ 5 → ⊥)
+    → eqb j 6 ≡ primitiveRule d k j w
 behind-first d k j w b n m o p = simp (eq-eqb _ 1 b, ne-eqb j 1 n, ne-eqb w 0 m, ne-eqb j 3 o, ne-eqb j 5 p, and-true)
 
 -- past the table's end there is no rule, and no use

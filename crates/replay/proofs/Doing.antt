@@ -94,7 +94,8 @@ module _ (map : Map) (hardware : Hardware) (done : ℕ) (m : Machine) (w : Whole
   unfolding endBatch
   end-ends e l = step-end map hardware done m w e ∙ rw l
 
-  pub end-returns : row m ≡ 1 → m .second ≡ true → {back : ℕ} → m .kept ≡ some back → stepped ≡ quietly m back false (m .kept) (m .registers)
+  pub end-returns : row m ≡ 1 → m .second ≡ true → {back : ℕ} → m .kept ≡ some back
+      → stepped ≡ quietly m back false (m .kept) (m .registers)
   unfolding endBatch
   end-returns e l k = step-end map hardware done m w e ∙ rw (l, k)
 

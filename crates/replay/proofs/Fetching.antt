@@ -1,30 +1,37 @@
--- The streamer beside the walk: a machine that agrees with a cursor fetches the dwords of the command that stands there, and no others.
+-- The streamer beside the walk: a machine that agrees with a cursor finds the row, the length and the dwords of the command that stands there.
 -- Assumes nothing.
-use Prim.Native.Nat.{ℕ, zero, suc, _+_, _-_, _*_, _/_, _%_, _^_, _≤_, _<_}
+use Prim.Native.Nat.{ℕ, zero, suc, _+_, _-_, _/_, _%_, _<_}
 use native.Mathlib.Nat.{add-zero}
-use native.Mathlib.Numerals.{add-one}
 use native.Mathlib.Omega.{arith}
-use mathlib.Core.Path.{_≡_, refl, sym, ap, _∙_}
-use mathlib.Core.Bool.{Bool, true, false, not}
-use mathlib.Core.List.{List, [], _∷_}
-use mathlib.Core.Option.{Option, some, none}
-use lib.ListN.{length, getD, getElem?, take, drop, length-drop}
-use lib.Seq.{getD-take, getD-drop, drop-cons, length-take-le}
+use mathlib.Core.Path.{_≡_, sym, ap, _∙_}
+use mathlib.Core.Bool.{Bool, true, false}
+use mathlib.Core.List.{List}
+use mathlib.Core.Option.{some}
+use mathlib.Core.Logic.{⊎-elim}
+use lib.ListN.{length, getD, drop}
+use lib.Seq.{getD-take, getD-drop}
 use lib.Bits.{bitAnd, and-mod, and-zero-r}
-use lib.Dec.{eqb}
+use lib.Dec.{lit<}
 use borrow.Author.Tests.{eqb-true, not-false}
 use Rattle.rules.specs.declared.Level.{Level}
 use Rattle.rules.specs.declared.Level.the-variants.{First, Second}
 use Rattle.rules.specs.declared.Cursor.{Cursor}
+use Rattle.rules.specs.declared.Within.the-variants.{AnyWindow}
 use Rattle.rules.specs.Words.{allowed}
-use Rattle.rules.specs.Windows.{Capture}
+use Rattle.rules.specs.Windows.{Capture, windowsOf, windowsWithin, listed, holds, Inside, fits}
 use Rattle.rules.specs.Commands.{Length, noField, exactly, byBit, groups, theRow, dwordCount, lengthOf}
 use Rattle.rules.specs.Uses.{addressAt}
 use Rattle.rules.specs.Masks.{allowedAt, bitWrong}
 use Rattle.rules.specs.Step.{headerAt, rowAt, lengthAt, dwordsAt}
+use Rattle.rules.proofs.Ranges.{inside, Sound, noWindow, some-at}
 use Rattle.rules.proofs.Stepping.{Passed}
-use Rattle.replay.specs.Streamer.{Machine, Step, withWord, fetched, fetchedWords, fetchedAddress}
-use Rattle.replay.proofs.Stores.{Windowed, some-word}
+use Rattle.replay.specs.Streamer.{Machine}
+use Rattle.replay.specs.Streamer.{Place, batchWord, stateWord, scratchWord, placeOf, loadFrom}
+use Rattle.replay.specs.Conduct.{mapOf}
+use Rattle.replay.specs.Runs.{fetchedCommand}
+use Rattle.replay.specs.Uses.{row, total, dword, address, Has, addressOf}
+use Rattle.replay.proofs.Stores.{Windowed}
+use Rattle.replay.proofs.Words.{has-load, outside-or-has, outside-has-none}
 
 abbrev pub isSecond : Level → Bool
 isSecond First = false
@@ -36,6 +43,35 @@ pub record Agrees (c : Capture) (s : Cursor) (m : Machine) : Type 0 where
   pub level : m .second ≡ isSecond (s .level)
   pub kept : (back : ℕ) → s .level ≡ Second back → m .kept ≡ some back
   pub windowed : Windowed c m
+
+-- a word in any of the windows can be loaded
+module _ (c : Capture) (s : Sound (listed (windowsOf c))) (m : Machine) (w : Windowed c m) (a : ℕ) (e : a % 4 ≡ 0) where
+  has-inside : (i : ℕ) → i < 3 → Inside (getD (listed (windowsOf c)) i noWindow) a 4
+      → (p : Place) × Has m p × (a ≡ addressOf (mapOf c) p)
+  unfolding windowsOf
+  has-inside zero h i =
+      let l = i .low in
+      let k = i .high in
+      let g : c .batchAt % 4096 ≡ 0 = s .aligned 0 (lit< tt) in
+      (batchWord ((a - c .batchAt) / 4), omega (arith, ap length (w .batch)), omega arith)
+  has-inside (suc zero) h i =
+      let l = i .low in
+      let k = i .high in
+      let g : c .stateAt % 4096 ≡ 0 = s .aligned 1 (lit< tt) in
+      (stateWord ((a - c .stateAt) / 4), omega (arith, ap length (w .state)), omega arith)
+  has-inside (suc (suc zero)) h i =
+      let l = i .low in
+      let k = i .high in
+      let g : c .scratchAt % 4096 ≡ 0 = s .aligned 2 (lit< tt) in
+      (scratchWord ((a - c .scratchAt) / 4), omega (arith, w .scratch), omega arith)
+  has-inside (suc (suc (suc i))) h j = absurd (omega arith)
+
+  pub loaded-word : fits (windowsOf c) AnyWindow a 4 ≡ true → (v : ℕ) × (loadFrom m (placeOf (mapOf c) m a) ≡ some v)
+  unfolding fits windowsWithin
+  loaded-word f =
+      let o = some-at (λ v. holds v a 4) noWindow (listed (windowsOf c)) f in
+      let x = has-inside (o .0) (o .1) (inside _ a 4 (o .2)) in
+      ⊎-elim (λ q. absurd (outside-has-none (mapOf c) m a q (x .0) (x .1) (x .2))) (λ h. has-load m (placeOf (mapOf c) m a) (h .0)) (outside-or-has (mapOf c) m a)
 
 -- a word whose allowed bits leave out the lowest two is a multiple of 4
 pub multiple-of-4 : (w mask : ℕ) → allowed w mask ≡ true → mask % 4 ≡ 0 → w % 4 ≡ 0
@@ -67,38 +103,30 @@ module _ (c : Capture) (s : Cursor) (m : Machine) (p : Passed c s) (g : Agrees c
   unfolding dwordsAt
   own-dword k h = getD-take long (drop (s .at) (c .batch)) k 0 h ∙ getD-drop (s .at) (c .batch) k 0
 
-  -- they are as many as its length
-  pub counted : length (dwordsAt (c .batch) (s .at)) ≡ lengthAt (c .batch) (s .at)
-  unfolding dwordsAt
-  counted = let w = p .whole in length-take-le long (drop (s .at) (c .batch)) (omega (arith, length-drop (s .at) (c .batch)))
+  -- what the machine fetches, in the words of the walk
+  pub row-is : row m ≡ rowAt (c .batch) (s .at)
+  unfolding fetchedCommand
+  row-is = rw (g .windowed .batch, g .at)
 
-  at-dword : (k : ℕ) → k < long → getElem? (m .batch) (m .at + k) ≡ some (getD dwords k 0)
-  at-dword k h =
-      let w = p .whole in
-      rw (g .windowed .batch, g .at, own-dword k h) (some-word (c .batch) (s .at + k) (omega arith))
+  pub total-is : total m ≡ lengthAt (c .batch) (s .at)
+  unfolding fetchedCommand
+  total-is = rw (g .windowed .batch, g .at)
 
-  pub fetches : (k : ℕ) → k < lengthAt (c .batch) (s .at) → (on : ℕ → Step) → fetched m k on ≡ on (getD (dwordsAt (c .batch) (s .at)) k 0)
-  unfolding fetched
-  fetches k h on = rw (at-dword k h)
+  pub dword-is : (k : ℕ) → k < lengthAt (c .batch) (s .at) → dword m k ≡ getD (dwordsAt (c .batch) (s .at)) k 0
+  dword-is k h = rw (g .windowed .batch, g .at) (sym (own-dword k h))
 
-  pub fetches-address : (k : ℕ) → k + 1 < lengthAt (c .batch) (s .at) → (on : ℕ → Step) → fetchedAddress m k on ≡ on (addressAt (dwordsAt (c .batch) (s .at)) k)
-  unfolding fetchedAddress addressAt
-  fetches-address k h on = fetches k (omega arith) _ ∙ fetches (k + 1) h _
-
-  pub fetches-words : (n k : ℕ) → k + n ≤ lengthAt (c .batch) (s .at) → (on : List ℕ → Step) → fetchedWords m k n on ≡ on (take n (drop k (dwordsAt (c .batch) (s .at))))
-  unfolding fetchedWords
-  fetches-words zero k h on = refl
-  fetches-words (suc n) k h on =
-      let l : k < length dwords = omega (arith, counted) in
-      fetches k (omega arith) _ ∙ fetches-words n (k + 1) (omega arith) (λ ws. on (getD dwords k 0 ∷ ws))
-      ∙ ap on (sym (rw (drop-cons dwords k 0 l, ← add-one k)))
+  pub address-is : (k : ℕ) → k + 1 < lengthAt (c .batch) (s .at) → address m k ≡ addressAt (dwordsAt (c .batch) (s .at)) k
+  unfolding addressAt
+  address-is k h = rw (dword-is k (omega arith), dword-is (k + 1) h)
 
   -- the header, as the table is asked
   pub header-is : getD (dwordsAt (c .batch) (s .at)) 0 0 ≡ headerAt (c .batch) (s .at)
   header-is = own-dword 0 (some-long (rowAt (c .batch) (s .at)) (headerAt (c .batch) (s .at))) ∙ ap (λ (i : ℕ). getD (c .batch) i 0) (add-zero (s .at))
 
   -- an address whose low dword allows no lowest bits
-  pub aligned : (k : ℕ) → k < lengthAt (c .batch) (s .at) → allowedAt (rowAt (c .batch) (s .at)) (dwordsAt (c .batch) (s .at)) k % 4 ≡ 0 → addressAt (dwordsAt (c .batch) (s .at)) k % 4 ≡ 0
+  pub aligned : (k : ℕ) → k < lengthAt (c .batch) (s .at)
+      → allowedAt (rowAt (c .batch) (s .at)) (dwordsAt (c .batch) (s .at)) k % 4 ≡ 0
+      → addressAt (dwordsAt (c .batch) (s .at)) k % 4 ≡ 0
   unfolding addressAt bitWrong
   aligned k h e =
       let d = multiple-of-4 (getD dwords k 0) _ (not-false _ (p .bits k h)) e in

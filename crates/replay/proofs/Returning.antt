@@ -43,7 +43,8 @@ module _ (c : Capture) (s : Cursor) (m : Machine) (g : Agrees c s m) (k : Comman
     unfolding walkCommand
     row-is = ap (λ (j : Command). j .row) told
 
-    header-bit : bit (getD (dwordsAt (c .batch) (s .at)) 0 0) 22 ≡ true → bit (getD (c .batch) (fetchedCommand m .index) 0) 22 ≡ true
+    header-bit : bit (getD (dwordsAt (c .batch) (s .at)) 0 0) 22 ≡ true
+        → bit (getD (c .batch) (fetchedCommand m .index) 0) 22 ≡ true
     unfolding walkCommand
     header-bit b =
         ap (λ (j : Command). bit (getD (c .batch) (j .index) 0) 22) told
@@ -69,7 +70,8 @@ module _ (c : Capture) (s : Cursor) (m : Machine) (g : Agrees c s m) (k : Comman
       by a q (goes-on r n) = λ back x. inr (o back (sym (level q) ∙ x))
 
   -- an end at level 1 goes where one of them says
-  pub returns-here : (effect : Effect) {t : Cursor} → stepOf c s ≡ Taken k (To t) → Agrees c t (effect .machine) → fetchedCommand m .row ≡ endRow
+  pub returns-here : (effect : Effect) {t : Cursor} → stepOf c s ≡ Taken k (To t) → Agrees c t (effect .machine)
+      → fetchedCommand m .row ≡ endRow
       → Returns (c .batch) past m (moment m effect)
   returns-here effect {t} e h r =
       let l = return-level c s t e (sym (row-is e) ∙ r) in

@@ -84,6 +84,12 @@ module _ (m : Machine) where
   words-fail (suc n) k zero on l h = fetch-fails k _ (omega arith)
   words-fail (suc n) k (suc j) on l h = fetch-then k _ (words-fail n (k + 1) j _ (le-of-suc-le-suc l) (omega arith))
 
+-- so many dwords are as many
+pub dwords-counted : (m : Machine) (n k : ℕ) → length (dwords m k n) ≡ n
+unfolding dwords
+dwords-counted m zero k = refl
+dwords-counted m (suc n) k = ap suc (dwords-counted m n (k + 1))
+
 -- the rows, as the streamer tells them apart
 pub data Kind (r : ℕ) : Type 0 where
   an-end : r ≡ 1 → Kind r
@@ -105,7 +111,7 @@ kind (suc (suc (suc (suc (suc (suc (suc zero))))))) = storing (inr (inr refl))
 kind (suc (suc (suc (suc (suc (suc (suc (suc r)))))))) = other (inr (omega arith))
 
 -- the rows that only advance use and store nothing
-no-operands : (m : Machine) → OtherRow (row m) → operands m ≡ 0
+pub no-operands : (m : Machine) → OtherRow (row m) → operands m ≡ 0
 unfolding operands
 no-operands m (inl e) = rw e
 no-operands m (inr l) = List·getD-eq-default (operandsByRow m) 0 l
@@ -150,7 +156,8 @@ module _ (map : Map) (hardware : Hardware) (done : ℕ) (m : Machine) where
   unknown-fails e = fetch-then m 0 _ (rw (eq-eqb (rowOf (dword m 0)) rowCount (sym (row-is m) ∙ e)))
 
 -- what holds of a whole command, of an unknown header and of a command that leaves the batch holds of every command
-pub whole-or : {A : Type 0} (m : Machine) → (Whole m → A) → (row m ≡ rowCount → A) → (length (m .batch) ≤ m .at + operands m → A) → A
+pub whole-or : {A : Type 0} (m : Machine) → (Whole m → A) → (row m ≡ rowCount → A) → (length (m .batch) ≤ m .at + operands m → A)
+    → A
 whole-or m whole unknown leaves =
     ⊎-elim (λ e. unknown (eqb-true _ _ e))
     (λ e.
@@ -170,7 +177,8 @@ module _ (map : Map) (hardware : Hardware) (done : ℕ) (m : Machine) (w : Whole
   unfolding exec operands
   step-start e = let i = rw e at (w .inside) in front ∙ rw e (address-gives m 1 _ (omega arith))
 
-  pub step-registers : row m ≡ 3 → step map hardware done m ≡ advance (total m) (withRegisters m (setPairs (m .registers) (dwords m 1 (2 * pairs m))))
+  pub step-registers : row m ≡ 3
+      → step map hardware done m ≡ advance (total m) (withRegisters m (setPairs (m .registers) (dwords m 1 (2 * pairs m))))
   unfolding exec operands
   step-registers e = let i = rw e at (w .inside) in front ∙ rw e (words-give m _ 1 _ (omega arith))
 
@@ -183,11 +191,13 @@ module _ (map : Map) (hardware : Hardware) (done : ℕ) (m : Machine) (w : Whole
   abbrev storingAt : ℕ → List ℕ → Step
   storingAt a ws = stores (total m) (storeWords map m a ws)
 
-  pub step-stores : StoringRow (row m) → step map hardware done m ≡ stores (total m) (storeWords map m (storesAt m) (toStore hardware done m))
+  pub step-stores : StoringRow (row m)
+      → step map hardware done m ≡ stores (total m) (storeWords map m (storesAt m) (toStore hardware done m))
   unfolding exec operands toStore storesAt storeWords pipe dwords fetchedWords
   step-stores r = front ∙ by r
     where
-      with-post-sync : (a b : Bool) → eqb (postSync m) 0 ≡ a → eqb (postSync m) 1 ≡ b → m .at + cond a 1 (cond b 5 3) < length (m .batch)
+      with-post-sync : (a b : Bool) → eqb (postSync m) 0 ≡ a → eqb (postSync m) 1 ≡ b
+          → m .at + cond a 1 (cond b 5 3) < length (m .batch)
           → fetched m 1 (pipe map hardware done m (total m))
           ≡ storingAt (address m 2) (cond a [] (cond b (dword m 4 ∷ dword m 5 ∷ []) (hardware done .low ∷ hardware done .high ∷ [])))
       with-post-sync true b p q i = fetch-gives m 1 _ i ∙ rw p
@@ -196,7 +206,8 @@ module _ (map : Map) (hardware : Hardware) (done : ℕ) (m : Machine) (w : Whole
           ∙ rw (p, q) (address-gives m 2 _ (omega arith) ∙ words-give m 2 4 (storingAt (address m 2)) (omega arith))
       with-post-sync false false p q i = fetch-gives m 1 _ (omega arith) ∙ rw (p, q) (address-gives m 2 _ (omega arith))
 
-      by : StoringRow (row m) → exec map hardware done m (dword m 0) (row m) (total m) ≡ storingAt (storesAt m) (toStore hardware done m)
+      by : StoringRow (row m)
+          → exec map hardware done m (dword m 0) (row m) (total m) ≡ storingAt (storesAt m) (toStore hardware done m)
       by (inl e) =
           let i = rw e at (w .inside) in
           rw e (address-gives m 1 _ (omega arith) ∙ words-give m (total m - 3) 3 (storingAt (address m 1)) (omega arith))

@@ -1,22 +1,21 @@
--- The streamer's accesses: a word that lies in scratch is stored there and nowhere else, and a word in any window can be loaded.
+-- The streamer's accesses: a word that lies in scratch is stored there and nowhere else.
 -- Assumes nothing.
 use Prim.Native.Nat.{ℕ, zero, suc, _+_, _-_, _*_, _/_, _%_, _≤_, _<_}
 use native.Mathlib.Nat.{le-of-suc-le-suc, not-suc-le-zero}
 use native.Mathlib.Omega.{arith}
-use mathlib.Core.Path.{_≡_, refl, sym, ap, _∙_}
-use mathlib.Core.Bool.{Bool, true, false, cond, _&&_}
+use mathlib.Core.Path.{_≡_, refl, ap, _∙_}
+use mathlib.Core.Bool.{Bool, true, cond, _&&_}
 use mathlib.Core.List.{List, [], _∷_}
-use mathlib.Core.Option.{Option, some, none}
-use mathlib.Core.Logic.{_⊎_, inl, inr, ⊎-elim}
+use mathlib.Core.Option.{some, none}
+use mathlib.Core.Logic.{⊎-elim}
 use lib.ListN.{length, getD, getElem?, set, length-set}
 use lib.Dec.{eqb, leb, ltb, lit<}
 use borrow.Author.Tests.{leb-true, ltb-true, eqb-true, le-leb, lt-ltb, eq-eqb}
 use Rattle.rules.specs.declared.Window.{Window}
-use Rattle.rules.specs.declared.Within.the-variants.{AnyWindow}
-use Rattle.rules.specs.Windows.{Capture, lent, holds, Inside, windowsOf, windowsWithin, listed, shareByte, fits}
+use Rattle.rules.specs.Windows.{Capture, lent, Inside, windowsOf, listed, shareByte}
 use Rattle.rules.proofs.Searching.{either, never-both, and-left, and-right}
-use Rattle.rules.proofs.Ranges.{inside, Sound, noWindow, some-at, no-two-at, both-share}
-use Rattle.replay.specs.Streamer.{Map, Machine, machine, Effect, wordAt, Place, batchWord, stateWord, scratchWord, outside, placed, placeOf, loadFrom, storeTo, noting, withMachine, storeWords}
+use Rattle.rules.proofs.Ranges.{inside, Sound, noWindow, no-two-at, both-share}
+use Rattle.replay.specs.Streamer.{Machine, machine, Effect, wordAt, scratchWord, placeOf, storeTo, storeWords}
 use Rattle.replay.specs.Conduct.{mapOf, InScratch, AllInScratch}
 
 -- the machine's windows are the capture's: batch and state as they were, and the whole words of scratch
@@ -39,7 +38,8 @@ module _ (at address : ℕ) (words : List ℕ) where
       let d : (address - at) / 4 < length words = ltb-true _ _ (and-right (eqb ((address - at) % 4) 0) _ r) in
       record { low = a; high = omega arith }
 
-  pub found : at ≤ address → (address - at) % 4 ≡ 0 → (address - at) / 4 < length words → wordAt at words address ≡ some ((address - at) / 4)
+  pub found : at ≤ address → (address - at) % 4 ≡ 0 → (address - at) / 4 < length words
+      → wordAt at words address ≡ some ((address - at) / 4)
   unfolding wordAt
   found a b d = rw (le-leb _ _ a, eq-eqb _ 0 b, lt-ltb _ _ d)
 
@@ -48,7 +48,8 @@ module _ (at address : ℕ) (words : List ℕ) where
   unfound n = ⊎-elim (λ e. absurd (n (held e))) (λ e. ap (λ t. cond t (some ((address - at) / 4)) none) e) (either test)
 
 -- two of sound windows hold no word together
-apart : (ws : List Window) → Sound ws → (i j : ℕ) → i < j → j < length ws → (a : ℕ) → Inside (getD ws i noWindow) a 4 → Inside (getD ws j noWindow) a 4 → ⊥
+apart : (ws : List Window) → Sound ws → (i j : ℕ) → i < j → j < length ws → (a : ℕ) → Inside (getD ws i noWindow) a 4
+    → Inside (getD ws j noWindow) a 4 → ⊥
 apart ws s i j h k a p q = never-both (both-share _ _ a 4 (omega arith) p q) (no-two-at shareByte noWindow ws (s .apart) i j h k)
 
 -- what stores leave as it was: all of the machine but the words of scratch
@@ -61,7 +62,8 @@ pub record Stored (c : Capture) (m : Machine) (e : Effect) : Type 0 where
 
 module _ (c : Capture) (s : Sound (listed (windowsOf c))) where
   -- where the streamer finds it
-  pub scratch-place : (m : Machine) → Windowed c m → (a : ℕ) → a % 4 ≡ 0 → InScratch c a → placeOf (mapOf c) m a ≡ scratchWord ((a - c .scratchAt) / 4)
+  pub scratch-place : (m : Machine) → Windowed c m → (a : ℕ) → a % 4 ≡ 0 → InScratch c a
+      → placeOf (mapOf c) m a ≡ scratchWord ((a - c .scratchAt) / 4)
   unfolding placeOf windowsOf
   scratch-place m w a e i =
       let l = i .low in
@@ -81,7 +83,8 @@ module _ (c : Capture) (s : Sound (listed (windowsOf c))) where
   stored-word m v a w e i = rw (scratch-place m v a e i)
 
   -- and a row of stores in scratch never fails, and stores nowhere else
-  pub stored-words : (ws : List ℕ) (m : Machine) → Windowed c m → (a : ℕ) → a % 4 ≡ 0 → Inside (windowsOf c .scratch) a (4 * length ws)
+  pub stored-words : (ws : List ℕ) (m : Machine) → Windowed c m → (a : ℕ) → a % 4 ≡ 0
+      → Inside (windowsOf c .scratch) a (4 * length ws)
       → (e : Effect) × (storeWords (mapOf c) m a ws ≡ some e) × Stored c m e
   unfolding storeWords
   stored-words [] m w a e i = (record { machine = m; stored = [] }, refl, record { at = refl; second = refl; kept = refl; windowed = w; inside = tt })
@@ -98,57 +101,15 @@ module _ (c : Capture) (s : Sound (listed (windowsOf c))) where
         record { at = t .at; second = t .second; kept = t .kept; windowed = t .windowed; inside = (here, t .inside) },
       )
 
--- a word in any of the windows can be loaded
+-- a word of a list
 pub some-word : (l : List ℕ) (i : ℕ) → i < length l → getElem? l i ≡ some (getD l i 0)
 some-word [] i h = absurd (not-suc-le-zero h)
 some-word (w ∷ l) zero h = refl
 some-word (w ∷ l) (suc i) h = some-word l i (le-of-suc-le-suc h)
 
-some-not-none : {i : ℕ} → _≡_ {A = Option ℕ} (some i) none → ⊥
+-- what the constructors keep apart, and what they keep
+pub some-not-none : {A : Type 0} {x : A} → some x ≡ none → ⊥
 some-not-none e = let z : _≡_ {A = ℕ} 0 1 = cc in omega arith
 
-same-some : {i j : ℕ} → _≡_ {A = Option ℕ} (some i) (some j) → i ≡ j
+pub same-some : {A : Type 0} {x y : A} → some x ≡ some y → x ≡ y
 same-some e = cc
-
--- a word that is found is one of the window's
-word-in : (at address : ℕ) (words : List ℕ) {i : ℕ} → wordAt at words address ≡ some i → i < length words
-unfolding wordAt test
-word-in at address words {i} e = by (test at address words) refl e
-  where
-    by : (t : Bool) → test at address words ≡ t → cond t (some ((address - at) / 4)) none ≡ some i → i < length words
-    by true p q =
-        let r = and-right (leb at address) _ p in
-        let d : (address - at) / 4 < length words = ltb-true _ _ (and-right (eqb ((address - at) % 4) 0) _ r) in
-        omega (arith, same-some q)
-    by false p q = absurd (some-not-none (sym q))
-
-module _ (c : Capture) (s : Sound (listed (windowsOf c))) (m : Machine) (w : Windowed c m) (a : ℕ) (e : a % 4 ≡ 0) where
-  -- a range of four bytes that fits is a word that is found
-  found-in : (i : ℕ) → i < 3 → Inside (getD (listed (windowsOf c)) i noWindow) a 4 → (wordAt (c .batchAt) (m .batch) a ≡ none) → (wordAt (c .stateAt) (m .state) a ≡ none) → (wordAt (c .scratchAt) (m .scratch) a ≡ none) → ⊥
-  unfolding windowsOf
-  found-in zero h i p q r =
-      let l = i .low in
-      let k = i .high in
-      let g : c .batchAt % 4096 ≡ 0 = s .aligned 0 (lit< tt) in
-      some-not-none (sym (found (c .batchAt) a (m .batch) l (omega arith) (omega (arith, ap length (w .batch)))) ∙ p)
-  found-in (suc zero) h i p q r =
-      let l = i .low in
-      let k = i .high in
-      let g : c .stateAt % 4096 ≡ 0 = s .aligned 1 (lit< tt) in
-      some-not-none (sym (found (c .stateAt) a (m .state) l (omega arith) (omega (arith, ap length (w .state)))) ∙ q)
-  found-in (suc (suc zero)) h i p q r =
-      let l = i .low in
-      let k = i .high in
-      let g : c .scratchAt % 4096 ≡ 0 = s .aligned 2 (lit< tt) in
-      some-not-none (sym (found (c .scratchAt) a (m .scratch) l (omega arith) (omega (arith, w .scratch))) ∙ r)
-  found-in (suc (suc (suc i))) h j p q r = absurd (omega arith)
-
-  pub loaded-word : fits (windowsOf c) AnyWindow a 4 ≡ true → (v : ℕ) × (loadFrom m (placeOf (mapOf c) m a) ≡ some v)
-  unfolding placeOf fits windowsWithin
-  loaded-word f = by (wordAt (c .batchAt) (m .batch) a) (wordAt (c .stateAt) (m .state) a) (wordAt (c .scratchAt) (m .scratch) a) refl refl refl
-    where
-      by : (x y z : Option ℕ) → wordAt (c .batchAt) (m .batch) a ≡ x → wordAt (c .stateAt) (m .state) a ≡ y → wordAt (c .scratchAt) (m .scratch) a ≡ z → (v : ℕ) × (loadFrom m (placed x y z) ≡ some v)
-      by (some i) y z p q r = (_, some-word (m .batch) i (word-in _ a (m .batch) p))
-      by none (some i) z p q r = (_, some-word (m .state) i (word-in _ a (m .state) q))
-      by none none (some i) p q r = (_, some-word (m .scratch) i (word-in _ a (m .scratch) r))
-      by none none none p q r = let o = some-at (λ v. holds v a 4) noWindow (listed (windowsOf c)) f in absurd (found-in (o .0) (o .1) (inside _ a 4 (o .2)) p q r)

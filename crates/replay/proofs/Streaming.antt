@@ -1,9 +1,7 @@
 -- The whole run: where the walk accepts, the streamer runs to the end in exactly the walk's commands.
 -- Assumes nothing.
-use Prim.Native.Nat.{ℕ, zero, suc, _+_, _/_, _≤_, _<_}
-use native.Mathlib.Omega.{arith}
-use mathlib.Core.Path.{_≡_, refl, sym, ap, ap₂, _∙_}
-use mathlib.Core.Bool.{Bool, true, false}
+use Prim.Native.Nat.{ℕ, zero, suc, _+_, _/_}
+use mathlib.Core.Path.{_≡_, refl, sym, ap, ap₂}
 use mathlib.Core.List.{List, [], _∷_, map}
 use mathlib.Core.Option.{Option, some, none}
 use lib.ListN.{length}
@@ -13,17 +11,18 @@ use Rattle.rules.specs.declared.Command.{Command}
 use Rattle.rules.specs.declared.After.the-variants.{Ends, To}
 use Rattle.rules.specs.declared.Outcome.{Outcome}
 use Rattle.rules.specs.declared.Outcome.the-variants.{Taken, Refused}
-use Rattle.rules.specs.declared.Verdict.the-variants.{Pass, Fails}
+use Rattle.rules.specs.declared.Verdict.the-variants.{Pass}
 use Rattle.rules.specs.Windows.{Capture, windowsOf, lengthsOf, listed}
 use Rattle.rules.specs.Step.{budget, stepOf}
-use Rattle.rules.specs.Walk.{Run, trace, traceFrom, cut, start, walk, commandsOf, endOf}
+use Rattle.rules.specs.Walk.{trace, cut, start, walk, commandsOf, endOf}
 use Rattle.rules.proofs.Trying.{fails-not-pass}
 use Rattle.rules.proofs.Ranges.{Sound, sound}
 use Rattle.rules.proofs.Moving.{first-keeps-none}
 use Rattle.rules.proofs.Walking.{walk-sound, accepted-sound}
 use Rattle.replay.specs.Streamer.{Map, Machine, machine, Step, goes, ends, fails, Hardware, step}
-use Rattle.replay.specs.Runs.{Moment, moment, more, run, runOf, afterAll}
+use Rattle.replay.specs.Runs.{Moment, moment, more, run, afterAll}
 use Rattle.replay.specs.Conduct.{mapOf, atStart, AllFair, AllReturn}
+use Rattle.replay.proofs.Stores.{some-not-none}
 use Rattle.replay.proofs.Fetching.{Agrees}
 use Rattle.replay.proofs.Simulating.{simulated}
 use Rattle.replay.proofs.Returning.{Origin, first-origin, origin-next, returns-here, ends-first}
@@ -37,7 +36,8 @@ pub record Streams (c : Capture) (hardware : Hardware) (done : ℕ) (past : List
   pub fair : AllFair c moments
   pub returns : AllReturn (c .batch) past m moments
 
-follows : (left room : ℕ) (c : Capture) → Sound (listed (windowsOf c)) → (hardware : Hardware) (done : ℕ) (past : List Moment) (s : Cursor) (m : Machine) (o : Outcome)
+follows : (left room : ℕ) (c : Capture) → Sound (listed (windowsOf c))
+    → (hardware : Hardware) (done : ℕ) (past : List Moment) (s : Cursor) (m : Machine) (o : Outcome)
     → stepOf c s ≡ o → Agrees c s m → Origin c past s → endOf (cut room (trace left c s o)) ≡ Pass
     → Streams c hardware done past m (commandsOf (cut room (trace left c s o)))
 unfolding trace cut commandsOf endOf run
@@ -68,7 +68,8 @@ follows (suc left) (suc room) c w hardware done past s m (Taken k (To t)) e g a 
     }
 
 -- THE RUN, for every starting base of the walk
-pub streams : (base : Base) (c : Capture) (room : ℕ) → endOf (walk base c room) ≡ Pass → (kept : Option ℕ) (registers : ℕ → ℕ) (scratch : List ℕ)
+pub streams : (base : Base) (c : Capture) (room : ℕ) → endOf (walk base c room) ≡ Pass
+    → (kept : Option ℕ) (registers : ℕ → ℕ) (scratch : List ℕ)
     → length scratch ≡ c .scratchBytes / 4 → (hardware : Hardware)
     → Streams c hardware 0 [] (atStart c kept registers scratch) (commandsOf (walk base c room))
 streams base c room e kept registers scratch l hardware =
@@ -86,20 +87,18 @@ ends-as-it-began c m [] b s f = (b, s)
 ends-as-it-began c m (x ∷ xs) b s f = ends-as-it-began c (x .after) xs (f .0 .batch) (f .0 .state) (f .1)
 
 -- the number of commands is the only one after which it ends
-none-some : {A : Type 0} {x : A} → _≡_ {A = Option A} none (some x) → ⊥
-none-some e = let z : _≡_ {A = ℕ} 0 1 = cc in omega arith
-
 was-some : (x : Moment) (o : Option (List Moment)) {xs : List Moment} → more x o ≡ some xs → (ys : List Moment) × (o ≡ some ys)
-was-some x none e = absurd (none-some e)
+was-some x none e = absurd (some-not-none (sym e))
 was-some x (some ys) e = (ys, refl)
 
-pub only-number : (n k : ℕ) (w : Map) (hardware : Hardware) (done : ℕ) (m : Machine) (o : Step) {xs ys : List Moment} → run n w hardware done m o ≡ some xs → run k w hardware done m o ≡ some ys → n ≡ k
+pub only-number : (n k : ℕ) (w : Map) (hardware : Hardware) (done : ℕ) (m : Machine) (o : Step) {xs ys : List Moment}
+    → run n w hardware done m o ≡ some xs → run k w hardware done m o ≡ some ys → n ≡ k
 unfolding run
-only-number zero k w hardware done m o p q = absurd (none-some p)
-only-number (suc n) zero w hardware done m o p q = absurd (none-some q)
-only-number (suc n) (suc k) w hardware done m fails p q = absurd (none-some p)
+only-number zero k w hardware done m o p q = absurd (some-not-none (sym p))
+only-number (suc n) zero w hardware done m o p q = absurd (some-not-none (sym q))
+only-number (suc n) (suc k) w hardware done m fails p q = absurd (some-not-none (sym p))
 only-number (suc zero) (suc zero) w hardware done m (ends e) p q = refl
-only-number (suc zero) (suc (suc k)) w hardware done m (ends e) p q = absurd (none-some q)
-only-number (suc (suc n)) (suc k) w hardware done m (ends e) p q = absurd (none-some p)
+only-number (suc zero) (suc (suc k)) w hardware done m (ends e) p q = absurd (some-not-none (sym q))
+only-number (suc (suc n)) (suc k) w hardware done m (ends e) p q = absurd (some-not-none (sym p))
 only-number (suc n) (suc k) w hardware done m (goes e) p q =
     ap suc (only-number n k w hardware (done + 1) (e .machine) (step w hardware (done + 1) (e .machine)) (was-some (moment m e) _ p .1) (was-some (moment m e) _ q .1))

@@ -15,14 +15,7 @@ use Rattle.rules.proofs.Searching.{and-left, and-right}
 use Rattle.replay.specs.Streamer.{Map, Machine, Effect, wordAt, Place, batchWord, stateWord, scratchWord, outside, placed, placeOf}
 use Rattle.replay.specs.Streamer.{loadFrom, storeTo, noting, withMachine, storeWords}
 use Rattle.replay.specs.Uses.{addressesFrom, Has, addressOf}
-use Rattle.replay.proofs.Stores.{found, some-word}
-
--- what the constructors keep apart, and what they keep
-pub some-not-none : {A : Type 0} {x : A} → some x ≡ none → ⊥
-some-not-none e = let z : _≡_ {A = ℕ} 0 1 = cc in omega arith
-
-pub same-some : {A : Type 0} {x y : A} → some x ≡ some y → x ≡ y
-same-some e = cc
+use Rattle.replay.proofs.Stores.{found, some-word, some-not-none, same-some}
 
 -- a word is stored in a list, and no other
 word-set : (l : List ℕ) (i w : ℕ) → i < length l → getElem? (set l i w) i ≡ some w
@@ -102,7 +95,8 @@ module _ (map : Map) (m : Machine) (a : ℕ) where
   pub none-has-outside : ((p : Place) → Has m p → a ≡ addressOf map p → ⊥) → placeOf map m a ≡ outside
   none-has-outside n = ⊎-elim (λ o. o) (λ h. absurd (n (placeOf map m a) (h .0) (h .1))) outside-or-has
 
-  pub broken-outside : map .batchAt % 4 ≡ 0 → map .stateAt % 4 ≡ 0 → map .scratchAt % 4 ≡ 0 → (a % 4 ≡ 0 → ⊥) → placeOf map m a ≡ outside
+  pub broken-outside : map .batchAt % 4 ≡ 0 → map .stateAt % 4 ≡ 0 → map .scratchAt % 4 ≡ 0 → (a % 4 ≡ 0 → ⊥)
+      → placeOf map m a ≡ outside
   broken-outside b s t n = none-has-outside by
     where
       by : (p : Place) → Has m p → a ≡ addressOf map p → ⊥
@@ -160,7 +154,8 @@ word-changed m w (scratchWord i) h =
 word-changed m w outside h = absurd h
 
 -- a store leaves each window as long as it was, so that an address keeps its place
-same-place : (map : Map) (m : Machine) (w : ℕ) (p : Place) {n : Machine} → storeTo m w p ≡ some n → (a : ℕ) → placeOf map n a ≡ placeOf map m a
+same-place : (map : Map) (m : Machine) (w : ℕ) (p : Place) {n : Machine} → storeTo m w p ≡ some n → (a : ℕ)
+    → placeOf map n a ≡ placeOf map m a
 unfolding placeOf wordAt
 same-place map m w p {n} e a = subst (λ (x : Machine). placeOf map x a ≡ placeOf map m a) (ap (after m) e) (by p)
   where
@@ -174,7 +169,8 @@ same-place map m w p {n} e a = subst (λ (x : Machine). placeOf map x a ≡ plac
 pub record WordsChanged (map : Map) (m : Machine) (a : ℕ) (ws : List ℕ) (e : Effect) : Type 0 where
   pub stored : e .stored ≡ addressesFrom a (length ws)
   pub each : (i : ℕ) → i < length ws → loadFrom (e .machine) (placeOf map m (a + 4 * i)) ≡ some (getD ws i 0)
-  pub elsewhere : (q : Place) → ((i : ℕ) → i < length ws → q ≡ placeOf map m (a + 4 * i) → ⊥) → loadFrom (e .machine) q ≡ loadFrom m q
+  pub elsewhere : (q : Place) → ((i : ℕ) → i < length ws → q ≡ placeOf map m (a + 4 * i) → ⊥)
+      → loadFrom (e .machine) q ≡ loadFrom m q
   pub second : e .machine .second ≡ m .second
   pub kept : e .machine .kept ≡ m .kept
   pub registers : e .machine .registers ≡ m .registers
@@ -222,7 +218,8 @@ module _ (map : Map) (m : Machine) where
       each zero h = rw (first-place a) (r .elsewhere (placeOf map m a) apart ∙ s .here)
       each (suc i) h = rw (later-place w a i q) (r .each i (le-of-suc-le-suc h))
 
-pub words-changed : (map : Map) (ws : List ℕ) (m : Machine) (a : ℕ) → ((i : ℕ) → i < length ws → placeOf map m (a + 4 * i) ≡ outside → ⊥)
+pub words-changed : (map : Map) (ws : List ℕ) (m : Machine) (a : ℕ)
+    → ((i : ℕ) → i < length ws → placeOf map m (a + 4 * i) ≡ outside → ⊥)
     → (e : Effect) × (storeWords map m a ws ≡ some e) × (e .machine .at ≡ m .at) × WordsChanged map m a ws e
 unfolding storeWords addressesFrom
 words-changed map [] m a k = (
@@ -247,7 +244,8 @@ outside-stops map (w ∷ ws) m a (suc i) h o =
     by (λ n. outside-stops map ws n (a + 4) i (le-of-suc-le-suc h)) (storeTo m w (placeOf map m a)) refl
   where
     by : ((n : Machine) → placeOf map n (a + 4 + 4 * i) ≡ outside → storeWords map n (a + 4) ws ≡ none)
-        → (x : Option Machine) → storeTo m w (placeOf map m a) ≡ x → withMachine x (λ n. noting a (storeWords map n (a + 4) ws)) ≡ none
+        → (x : Option Machine) → storeTo m w (placeOf map m a) ≡ x
+        → withMachine x (λ n. noting a (storeWords map n (a + 4) ws)) ≡ none
     by rest none e = refl
     by rest (some n) e = rw (rest n (sym (later-place map m w a i e) ∙ o))
 

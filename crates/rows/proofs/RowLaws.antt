@@ -1,16 +1,17 @@
 -- Laws of the table of rows, over the row and the header, for the functions that read it off.
 -- Assumes nothing.
 use Prim.Native.Nat.{ℕ, zero, suc, _+_, _*_, _/_, _%_, _^_, _≤_, _<_}
+use native.Mathlib.Nat.{mul-div-cancel}
 use native.Mathlib.Omega.{arith}
 use mathlib.Core.Path.{_≡_, refl, sym, ap, _∙_}
-use mathlib.Core.Bool.{Bool, true, false, cond, _&&_, _||_}
-use mathlib.Core.List.{List, [], _∷_}
+use mathlib.Core.Bool.{Bool, true, false, cond, _||_}
+use mathlib.Core.List.{List, [], _∷_, _++_}
 use mathlib.Core.Logic.{⊎-elim}
-use lib.ListN.{length, getD, drop, List·getD-eq-default}
-use lib.Dec.{eqb, leb, ltb, lit<, lit≤}
-use borrow.Author.Tests.{eq-eqb, ne-eqb, ltb-true, ltb-false, le-leb, lt-leb, le-ltb}
-use Rattle.rules.specs.Words.{bit, field, cleared, some}
-use Rattle.rules.specs.Commands.{Length, noField, exactly, byBit, groups, Row, rows, theRow, keyOf, rowFrom, rowOf, dwordCount, lengthOf, groupSize, fieldRight, lengthRight, rowCount}
+use lib.ListN.{length, take, drop, List·getD-eq-default}
+use lib.Dec.{eqb, leb, ltb, lit<}
+use borrow.Author.Tests.{eq-eqb, ne-eqb, leb-false, ltb-true, ltb-false, le-leb, lt-leb, le-ltb}
+use Rattle.rules.specs.Words.{bit, field, some}
+use Rattle.rules.specs.Commands.{Length, noField, exactly, byBit, groups, Row, rows, theRow, keyOf, rowFrom, rowOf, dwordCount, lengthOf, groupSize, lengthRight, rowCount}
 use Rattle.rows.specs.Groups.{groupsRight}
 use Rattle.rules.proofs.Tables.{each, at-each}
 use Rattle.rules.proofs.Searching.{some-left, some-right, or-cases, never-both}
@@ -78,82 +79,69 @@ pub right-past : (r header : ℕ) → rowCount ≤ r → true ≡ lengthRight r 
 unfolding lengthRight
 right-past r header h = rw (no-row r h)
 
--- a key that is none of a list of rows' keys
-unkeyed : (key : ℕ) (rs : List Row) → some (λ r. eqb key (r .key)) rs ≡ false → length rs ≡ rowFrom key rs
+-- the shape of what a `match` over rows' keys, told in such units, leaves its last arm
+abbrev pub Others : Type 0 → ℕ → List Row → ℕ → Type 0
+Others before unit [] key = before
+Others before unit (r ∷ rs) key = Others (before × (key ≡ r .key / unit → ⊥)) unit rs key
+
+-- some row of a list has the key
+abbrev keyed : ℕ → List Row → Bool
+keyed key rs = some (λ r. eqb key (r .key)) rs
+
+-- which none has, where the key is told in units and is none of theirs
+others-unkeyed : (before : Type 0) (unit key : ℕ) (rs : List Row) → 0 < unit → Others before unit rs key
+    → before × (keyed (key * unit) rs ≡ false)
+unfolding some
+others-unkeyed before unit key [] h o = (o, refl)
+others-unkeyed before unit key (r ∷ rs) h o =
+    let q = others-unkeyed (before × (key ≡ r .key / unit → ⊥)) unit key rs h o in
+    let n = ne-eqb (key * unit) (r .key) (λ e. q .0 .1 (sym (mul-div-cancel key h) ∙ ap (λ (k : ℕ). k / unit) e)) in
+    (q .0 .0, rw (n, q .1))
+
+-- where theirs all lie above it, and where they all lie below it
+above-unkeyed : (key low : ℕ) (rs : List Row) → key < low → some (λ r. ltb (r .key) low) rs ≡ false → keyed key rs ≡ false
+unfolding some
+above-unkeyed key low [] h t = refl
+above-unkeyed key low (r ∷ rs) h t =
+    let l = ltb-false (r .key) low (some-left (ltb (r .key) low) _ t) in
+    rw (ne-eqb key (r .key) (λ e. omega arith), above-unkeyed key low rs h (some-right (ltb (r .key) low) _ t))
+
+below-unkeyed : (key low : ℕ) (rs : List Row) → low ≤ key → some (λ r. leb low (r .key)) rs ≡ false → keyed key rs ≡ false
+unfolding some
+below-unkeyed key low [] h t = refl
+below-unkeyed key low (r ∷ rs) h t =
+    let l = leb-false low (r .key) (some-left (leb low (r .key)) _ t) in
+    rw (ne-eqb key (r .key) (λ e. omega arith), below-unkeyed key low rs h (some-right (leb low (r .key)) _ t))
+
+-- a search for the key goes past them
+passes : (key : ℕ) (rs more : List Row) → keyed key rs ≡ false → length rs + rowFrom key more ≡ rowFrom key (rs ++ more)
 unfolding some rowFrom
-unkeyed key [] e = refl
-unkeyed key (r ∷ rs) e = rw (some-left (eqb key (r .key)) _ e) (ap suc (unkeyed key rs (some-right (eqb key (r .key)) _ e)))
+passes key [] more e = omega arith
+passes key (r ∷ rs) more e = rw (some-left (eqb key (r .key)) _ e) (omega (arith, passes key rs more (some-right (eqb key (r .key)) _ e)))
 
--- a key of type 0 stands for a multiple of 2^23 below 2^29, any other for one of 2^16 from 2^29 on
-same-0 : (key k : ℕ) → key * 2 ^ 23 ≡ k * 2 ^ 23 → key ≡ k
-same-0 key k e = omega arith
+-- the keys of type 0 stand first, for multiples of 2^23 below 2^29; the others are multiples of 2^16 from 2^29 on
+no-type-3 : (key : ℕ) → keyed key (drop 7 rows) ≡ false → rowCount ≡ 7 + rowFrom key (drop 7 rows)
+unfolding rowFrom rows
+no-type-3 key e = ap (λ (n : ℕ). 7 + n) (passes key (drop 7 rows) [] e)
 
-same-3 : (key k : ℕ) → key * 2 ^ 16 ≡ k * 2 ^ 16 → key ≡ k
-same-3 key k e = omega arith
+no-type-0 : (key : ℕ) → keyed key (take 7 rows) ≡ false → 7 + rowFrom key (drop 7 rows) ≡ rowFrom key rows
+unfolding rows
+no-type-0 key e = passes key (take 7 rows) (drop 7 rows) e
 
-too-low : (key k : ℕ) → key < 64 → 2 ^ 29 ≤ k → key * 2 ^ 23 ≡ k → ⊥
-too-low key k h l e = omega arith
-
-pub unknown-0 : (key : ℕ) → key < 64
-    → (key ≡ 0x0 → ⊥)
-    → (key ≡ 0xA → ⊥)
-    → (key ≡ 0x31 → ⊥)
-    → (key ≡ 0x22 → ⊥)
-    → (key ≡ 0x20 → ⊥)
-    → (key ≡ 0x24 → ⊥)
-    → (key ≡ 0x29 → ⊥)
-    → rowCount ≡ rowFrom (key * 2 ^ 23) rows
+below-3 : (key : ℕ) → key < 2 ^ 29 → rowCount ≡ 7 + rowFrom key (drop 7 rows)
 unfolding some rows
-unknown-0 key h n0 n1 n2 n3 n4 n5 n6 =
-    unkeyed (key * 2 ^ 23) rows
-    (simp (
-      ne-eqb (key * 2 ^ 23) 0x00000000 (λ e. n0 (same-0 key 0x0 e)),
-      ne-eqb (key * 2 ^ 23) 0x05000000 (λ e. n1 (same-0 key 0xA e)),
-      ne-eqb (key * 2 ^ 23) 0x18800000 (λ e. n2 (same-0 key 0x31 e)),
-      ne-eqb (key * 2 ^ 23) 0x11000000 (λ e. n3 (same-0 key 0x22 e)),
-      ne-eqb (key * 2 ^ 23) 0x10000000 (λ e. n4 (same-0 key 0x20 e)),
-      ne-eqb (key * 2 ^ 23) 0x12000000 (λ e. n5 (same-0 key 0x24 e)),
-      ne-eqb (key * 2 ^ 23) 0x14800000 (λ e. n6 (same-0 key 0x29 e)),
-      ne-eqb (key * 2 ^ 23) 0x7A000000 (too-low key 0x7A000000 h (lit≤ tt)),
-      ne-eqb (key * 2 ^ 23) 0x69040000 (too-low key 0x69040000 h (lit≤ tt)),
-      ne-eqb (key * 2 ^ 23) 0x61010000 (too-low key 0x61010000 h (lit≤ tt)),
-      ne-eqb (key * 2 ^ 23) 0x78080000 (too-low key 0x78080000 h (lit≤ tt)),
-      ne-eqb (key * 2 ^ 23) 0x78090000 (too-low key 0x78090000 h (lit≤ tt)),
-      ne-eqb (key * 2 ^ 23) 0x780A0000 (too-low key 0x780A0000 h (lit≤ tt)),
-      ne-eqb (key * 2 ^ 23) 0x784B0000 (too-low key 0x784B0000 h (lit≤ tt)),
-      ne-eqb (key * 2 ^ 23) 0x78230000 (too-low key 0x78230000 h (lit≤ tt)),
-      ne-eqb (key * 2 ^ 23) 0x780E0000 (too-low key 0x780E0000 h (lit≤ tt)),
-      ne-eqb (key * 2 ^ 23) 0x7B000000 (too-low key 0x7B000000 h (lit≤ tt)),
-    ))
+below-3 key h = no-type-3 key (above-unkeyed key (2 ^ 29) (drop 7 rows) h refl)
 
-pub unknown-3 : (key : ℕ)
-    → (key ≡ 0x7A00 → ⊥)
-    → (key ≡ 0x6904 → ⊥)
-    → (key ≡ 0x6101 → ⊥)
-    → (key ≡ 0x7808 → ⊥)
-    → (key ≡ 0x7809 → ⊥)
-    → (key ≡ 0x780A → ⊥)
-    → (key ≡ 0x784B → ⊥)
-    → (key ≡ 0x7823 → ⊥)
-    → (key ≡ 0x780E → ⊥)
-    → (key ≡ 0x7B00 → ⊥)
-    → rowCount ≡ 7 + rowFrom (key * 2 ^ 16) (drop 7 rows)
+above-0 : (key : ℕ) → 2 ^ 29 ≤ key → 7 + rowFrom key (drop 7 rows) ≡ rowFrom key rows
 unfolding some rows
-unknown-3 key n7 n8 n9 n10 n11 n12 n13 n14 n15 n16 =
-    ap (λ (n : ℕ). 7 + n)
-    (unkeyed (key * 2 ^ 16) (drop 7 rows)
-    (simp (
-      ne-eqb (key * 2 ^ 16) 0x7A000000 (λ e. n7 (same-3 key 0x7A00 e)),
-      ne-eqb (key * 2 ^ 16) 0x69040000 (λ e. n8 (same-3 key 0x6904 e)),
-      ne-eqb (key * 2 ^ 16) 0x61010000 (λ e. n9 (same-3 key 0x6101 e)),
-      ne-eqb (key * 2 ^ 16) 0x78080000 (λ e. n10 (same-3 key 0x7808 e)),
-      ne-eqb (key * 2 ^ 16) 0x78090000 (λ e. n11 (same-3 key 0x7809 e)),
-      ne-eqb (key * 2 ^ 16) 0x780A0000 (λ e. n12 (same-3 key 0x780A e)),
-      ne-eqb (key * 2 ^ 16) 0x784B0000 (λ e. n13 (same-3 key 0x784B e)),
-      ne-eqb (key * 2 ^ 16) 0x78230000 (λ e. n14 (same-3 key 0x7823 e)),
-      ne-eqb (key * 2 ^ 16) 0x780E0000 (λ e. n15 (same-3 key 0x780E e)),
-      ne-eqb (key * 2 ^ 16) 0x7B000000 (λ e. n16 (same-3 key 0x7B00 e)),
-    )))
+above-0 key h = no-type-0 key (below-unkeyed key (2 ^ 29) (take 7 rows) h refl)
+
+pub unknown-3 : (key : ℕ) → Others (Unit {0}) (2 ^ 16) (drop 7 rows) key → rowCount ≡ 7 + rowFrom (key * 2 ^ 16) (drop 7 rows)
+unknown-3 key o = no-type-3 (key * 2 ^ 16) (others-unkeyed (Unit {0}) (2 ^ 16) key (drop 7 rows) (lit< tt) o .1)
+
+unknown-0 : (key : ℕ) → key < 64 → Others (Unit {0}) (2 ^ 23) (take 7 rows) key → rowCount ≡ rowFrom (key * 2 ^ 23) rows
+unknown-0 key h o =
+    below-3 (key * 2 ^ 23) (omega arith) ∙ no-type-0 (key * 2 ^ 23) (others-unkeyed (Unit {0}) (2 ^ 23) key (take 7 rows) (lit< tt) o .1)
 
 -- a header with a key of type 0
 pub key-0 : (header k : ℕ) → header / 2 ^ 23 ≡ k → k < 64 → rowFrom (k * 2 ^ 23) rows ≡ rowOf header
@@ -162,59 +150,20 @@ key-0 header k e h =
     let t : field header 31 29 ≡ 0 = omega arith in
     rw (eq-eqb _ 0 t, e)
 
--- a key below 2^29 is none of type 3, and one from there on none of type 0
-below-3 : (key : ℕ) → key < 2 ^ 29 → rowCount ≡ 7 + rowFrom key (drop 7 rows)
-unfolding some rows
-below-3 key h =
-    ap (λ (n : ℕ). 7 + n)
-    (unkeyed key (drop 7 rows)
-    (simp (
-      ne-eqb key 0x7A000000 (λ e. omega arith),
-      ne-eqb key 0x69040000 (λ e. omega arith),
-      ne-eqb key 0x61010000 (λ e. omega arith),
-      ne-eqb key 0x78080000 (λ e. omega arith),
-      ne-eqb key 0x78090000 (λ e. omega arith),
-      ne-eqb key 0x780A0000 (λ e. omega arith),
-      ne-eqb key 0x784B0000 (λ e. omega arith),
-      ne-eqb key 0x78230000 (λ e. omega arith),
-      ne-eqb key 0x780E0000 (λ e. omega arith),
-      ne-eqb key 0x7B000000 (λ e. omega arith),
-    )))
-
-above-0 : (key : ℕ) → 2 ^ 29 ≤ key → 7 + rowFrom key (drop 7 rows) ≡ rowFrom key rows
-unfolding rowFrom rows
-above-0 key h =
-    rw (
-      ne-eqb key 0x00000000 (λ e. omega arith),
-      ne-eqb key 0x05000000 (λ e. omega arith),
-      ne-eqb key 0x18800000 (λ e. omega arith),
-      ne-eqb key 0x11000000 (λ e. omega arith),
-      ne-eqb key 0x10000000 (λ e. omega arith),
-      ne-eqb key 0x12000000 (λ e. omega arith),
-      ne-eqb key 0x14800000 (λ e. omega arith),
-    ) (omega arith)
-
 of-type-3 : (header : ℕ) → header < 2 ^ 32 → 2 ^ 29 ≤ header → rowFrom (header / 2 ^ 16 * 2 ^ 16) rows ≡ rowOf header
 unfolding rowOf keyOf
 of-type-3 header f h = let t : (field header 31 29 ≡ 0 → ⊥) = λ e. omega arith in rw (ne-eqb _ 0 t)
 
 -- a header with no key of type 0
-pub key-3 : (header : ℕ) → header < 2 ^ 32
-    → (header / 2 ^ 23 ≡ 0x0 → ⊥)
-    → (header / 2 ^ 23 ≡ 0xA → ⊥)
-    → (header / 2 ^ 23 ≡ 0x31 → ⊥)
-    → (header / 2 ^ 23 ≡ 0x22 → ⊥)
-    → (header / 2 ^ 23 ≡ 0x20 → ⊥)
-    → (header / 2 ^ 23 ≡ 0x24 → ⊥)
-    → (header / 2 ^ 23 ≡ 0x29 → ⊥)
+pub key-3 : (header : ℕ) → header < 2 ^ 32 → Others (Unit {0}) (2 ^ 23) (take 7 rows) (header / 2 ^ 23)
     → 7 + rowFrom (header / 2 ^ 16 * 2 ^ 16) (drop 7 rows) ≡ rowOf header
-key-3 header f n0 n1 n2 n3 n4 n5 n6 = by (ltb header (2 ^ 29)) refl
+key-3 header f o = by (ltb header (2 ^ 29)) refl
   where
     by : (t : Bool) → ltb header (2 ^ 29) ≡ t → 7 + rowFrom (header / 2 ^ 16 * 2 ^ 16) (drop 7 rows) ≡ rowOf header
     by true e =
         let h = ltb-true header (2 ^ 29) e in
         sym (below-3 (header / 2 ^ 16 * 2 ^ 16) (omega arith))
-        ∙ unknown-0 (header / 2 ^ 23) (omega arith) n0 n1 n2 n3 n4 n5 n6
+        ∙ unknown-0 (header / 2 ^ 23) (omega arith) o
         ∙ key-0 header (header / 2 ^ 23) refl (omega arith)
     by false e =
         let h = ltb-false header (2 ^ 29) e in
@@ -232,11 +181,13 @@ pub right-exactly : (r header f : ℕ) → theRow r .total ≡ exactly f → eqb
 unfolding lengthRight
 right-exactly r header f e = rw (e, low-byte header)
 
-pub right-store : (r header : ℕ) → theRow r .total ≡ byBit 21 2 3 → eqb (header % 256) (cond (bit header 21) 3 2) ≡ lengthRight r header
+pub right-store : (r header : ℕ) → theRow r .total ≡ byBit 21 2 3
+    → eqb (header % 256) (cond (bit header 21) 3 2) ≡ lengthRight r header
 unfolding lengthRight
 right-store r header e = rw (e, low-byte header)
 
-pub right-groups : (r header size most : ℕ) → theRow r .total ≡ groups most → groupSize r ≡ size → groupsRight (header % 256) size most ≡ lengthRight r header
+pub right-groups : (r header size most : ℕ) → theRow r .total ≡ groups most → groupSize r ≡ size
+    → groupsRight (header % 256) size most ≡ lengthRight r header
 unfolding lengthRight groupsRight
 right-groups r header size most e g = rw (e, g, low-byte header)
 

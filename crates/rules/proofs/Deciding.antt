@@ -37,7 +37,8 @@ goes-not-ends e = let z : _≡_ {A = ℕ} 0 1 = cc in omega arith
 
 module _ (c : Capture) where
   -- from a cursor, so many commands lead one way only
-  pub one-way : {s t u : Cursor} {ks ls : List Command} → Leads c s ks t → Leads c s ls u → length ks ≡ length ls → (ks ≡ ls) × (t ≡ u)
+  pub one-way : {s t u : Cursor} {ks ls : List Command} → Leads c s ks t → Leads c s ls u → length ks ≡ length ls
+      → (ks ≡ ls) × (t ≡ u)
   one-way stays stays e = (refl, refl)
   one-way stays (onward q m) e = absurd (omega arith)
   one-way (onward p l) stays e = absurd (omega arith)
@@ -47,7 +48,8 @@ module _ (c : Capture) where
       (ap (λ (i : Command). i ∷ ks) (n .0) ∙ ap (λ (is : List Command). j ∷ is) (r .0), r .1)
 
   -- and to one end
-  pub one-end : {s t u : Cursor} {ks ls : List Command} {k l : Command} → Leads c s ks t → stepOf c t ≡ Taken k Ends → Leads c s ls u → stepOf c u ≡ Taken l Ends
+  pub one-end : {s t u : Cursor} {ks ls : List Command} {k l : Command} → Leads c s ks t → stepOf c t ≡ Taken k Ends
+      → Leads c s ls u → stepOf c u ≡ Taken l Ends
       → ks ++ (k ∷ []) ≡ ls ++ (l ∷ [])
   one-end stays p stays q = ap (λ (j : Command). j ∷ []) (same-last (sym p ∙ q))
   one-end stays p (onward e m) q = absurd (goes-not-ends (sym e ∙ p))
@@ -59,7 +61,8 @@ module _ (c : Capture) where
 
 module _ (base : Base) (c : Capture) (room : ℕ) where
   -- a run to the end is the walk's own, where the walk is accepted
-  pub complete-told : {ks : List Command} → endOf (walk base c room) ≡ Pass → Complete base c ks → ks ≡ commandsOf (walk base c room)
+  pub complete-told : {ks : List Command} → endOf (walk base c room) ≡ Pass → Complete base c ks
+      → ks ≡ commandsOf (walk base c room)
   complete-told e p =
       let q = completion base c room e in
       p .all ∙ one-end c (p .reached) (p .ends) (q .reached) (q .ends) ∙ sym (q .all)
@@ -69,10 +72,12 @@ module _ (base : Base) (c : Capture) (room : ℕ) where
   faults {ks} p n = fails-not-pass (sym (first-is (p .first)) ∙ no-fault (here c (p .cursor)) _ (n .passes ks (p .cursor) (p .reached)))
 
   -- nor for one that comes later
-  no-later : {ks ls : List Command} {f g : Fault} → WalkFault base c room ks f → WalkFault base c room ls g → length ks < length ls → ⊥
+  no-later : {ks ls : List Command} {f g : Fault} → WalkFault base c room ks f → WalkFault base c room ls g → length ks < length ls
+      → ⊥
   no-later {ks} p q h = fails-not-pass (sym (first-is (p .first)) ∙ no-fault (here c (p .cursor)) _ (q .earlier ks (p .cursor) (p .reached) h))
 
-  same-fault-at : {ks ls : List Command} {f g : Fault} → WalkFault base c room ks f → WalkFault base c room ls g → (ks ≡ ls) × (f ≡ g)
+  same-fault-at : {ks ls : List Command} {f g : Fault} → WalkFault base c room ks f → WalkFault base c room ls g
+      → (ks ≡ ls) × (f ≡ g)
   same-fault-at {ks} {ls} {f} {g} p q =
       let n : length ks ≡ length ls =
       ⊎-elim (λ t. absurd (no-later p q (ltb-true (length ks) (length ls) t)))
@@ -87,7 +92,8 @@ module _ (base : Base) (c : Capture) (room : ℕ) where
       (w .0, same-fault same)
 
   -- a first fault is the walk's own end, and the commands before it those that it tells
-  pub fault-told : {ks : List Command} {f : Fault} → WalkFault base c room ks f → (endOf (walk base c room) ≡ Fails f) × (ks ≡ commandsOf (walk base c room))
+  pub fault-told : {ks : List Command} {f : Fault} → WalkFault base c room ks f
+      → (endOf (walk base c room) ≡ Fails f) × (ks ≡ commandsOf (walk base c room))
   fault-told {ks} {f} p = by (endOf (walk base c room)) refl
     where
       by : (v : Verdict) → endOf (walk base c room) ≡ v → (v ≡ Fails f) × (ks ≡ commandsOf (walk base c room))

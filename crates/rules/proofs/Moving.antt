@@ -63,7 +63,8 @@ unfolding afterEnd
 end-way c s First e r = ends r e
 end-way c s (Second back) e r = returns r e
 
-start-way : (c : Capture) (s : Cursor) (b : Bool) → bit (getD (dwordsAt (c .batch) (s .at)) 0 0) 22 ≡ b → rowAt (c .batch) (s .at) ≡ startRow
+start-way : (c : Capture) (s : Cursor) (b : Bool) → bit (getD (dwordsAt (c .batch) (s .at)) 0 0) 22 ≡ b
+    → rowAt (c .batch) (s .at) ≡ startRow
     → Way c s (To (cursor (targetAt c s) (cond b (Second (nextAt c s)) (s .level)) (s .base)))
 start-way c s false e r = jumps r e
 start-way c s true e r = calls r e
@@ -85,7 +86,8 @@ pub taken-way : (c : Capture) (s : Cursor) {k : Command} {a : After} → stepOf 
 taken-way c s e = rw (took c s e .move) (way c s)
 
 -- A RETURN COMES BACK TO LEVEL 0, at the position that was kept.
-pub return-level : (c : Capture) (s t : Cursor) {k : Command} → stepOf c s ≡ Taken k (To t) → rowAt (c .batch) (s .at) ≡ endRow → (t .level ≡ First) × (s .level ≡ Second (t .at))
+pub return-level : (c : Capture) (s t : Cursor) {k : Command} → stepOf c s ≡ Taken k (To t) → rowAt (c .batch) (s .at) ≡ endRow
+    → (t .level ≡ First) × (s .level ≡ Second (t .at))
 return-level c s t e r = by (To t) refl (taken-way c s e)
   where
     by : (a : After) → a ≡ To t → Way c s a → (t .level ≡ First) × (s .level ≡ Second (t .at))
@@ -96,7 +98,8 @@ return-level c s t e r = by (To t) refl (taken-way c s e)
     by a q (goes-on p n) = absurd (p r)
 
 -- A COMMAND THAT PASSED 9 LIES IN THE BATCH.
-pub lies-in-batch : (c : Capture) (s : Cursor) → Passed c s → (k : ℕ) → k < lengthAt (c .batch) (s .at) → s .at + k < length (c .batch)
+pub lies-in-batch : (c : Capture) (s : Cursor) → Passed c s → (k : ℕ) → k < lengthAt (c .batch) (s .at)
+    → s .at + k < length (c .batch)
 lies-in-batch c s p k h = omega (arith, p .whole)
 
 -- a start's length, by its field
@@ -105,14 +108,16 @@ unfolding lengthOf rows theRow
 start-length header = omega arith
 
 -- a start that passed 13 leads to a dword of the batch, and its target is that dword's address
-pub target-inside : (c : Capture) (s : Cursor) → Passed c s → rowAt (c .batch) (s .at) ≡ startRow → Inside (windowsOf c .batch) (addressAt (dwordsAt (c .batch) (s .at)) 1) 4
+pub target-inside : (c : Capture) (s : Cursor) → Passed c s → rowAt (c .batch) (s .at) ≡ startRow
+    → Inside (windowsOf c .batch) (addressAt (dwordsAt (c .batch) (s .at)) 1) 4
 target-inside c s p r =
     let n : 1 < lengthAt (c .batch) (s .at) = rw r (start-length (headerAt (c .batch) (s .at))) in
     in-batch (windowsOf c) _ 4
     (access-fits (windowsOf c) _ (dwordsAt (c .batch) (s .at)) 1 (ap (λ (i : ℕ). accessAt i (dwordsAt (c .batch) (s .at)) 1) r ∙ start-reaches _)
     (p .ranges 1 n))
 
-pub target-in-batch : (c : Capture) (s : Cursor) → Passed c s → rowAt (c .batch) (s .at) ≡ startRow → targetAt c s < length (c .batch)
+pub target-in-batch : (c : Capture) (s : Cursor) → Passed c s → rowAt (c .batch) (s .at) ≡ startRow
+    → targetAt c s < length (c .batch)
 unfolding windowsOf
 target-in-batch c s p r =
     let i = target-inside c s p r in

@@ -25,13 +25,17 @@ use Rattle.rules.specs.declared.Outcome.the-variants.{Refused}
 use Rattle.rules.specs.declared.Verdict.{Verdict}
 use Rattle.rules.specs.declared.Verdict.the-variants.{Pass, Fails}
 use Rattle.rules.specs.declared.Reason.{Reason}
-use Rattle.rules.specs.declared.Reason.the-variants.{WrongCounts, AddressUnaligned, EndsTooHigh, WindowsShare, RanOff, UnknownHeader, WrongLength, PastTheWindow, NestedStart, FileSize, FileDistance, BufferShort}
+use Rattle.rules.specs.declared.Reason.the-variants.{WrongCounts, AddressUnaligned, EndsTooHigh, WindowsShare, RanOff}
+use Rattle.rules.specs.declared.Reason.the-variants.{UnknownHeader, WrongLength, PastTheWindow, NestedStart}
+use Rattle.rules.specs.declared.Reason.the-variants.{FileSize, FileDistance, BufferShort}
 use Rattle.rules.specs.Words.{bit, some, someTwo, firstOf}
 use Rattle.rules.specs.Refusals.{batchWindow, stateWindow, fault, refuseIf, refuseFound, tried, firstFault}
 use Rattle.rules.specs.Windows.{Capture, Lengths, windowLimit, listed, countsWrong, unaligned, endsTooHigh, shareByte, windowChecks, windowFault, lent, holds, holdsDwords, heldAt}
 use Rattle.rules.specs.Commands.{rows, rowCount, theRow, lengthOf, lengthRight}
 use Rattle.rules.specs.Structures.{Asked, askedAt, layoutOf, nowhere, heldWindow, heldFrom, structureNowhere, structureBit, structureValue, structureChecks}
-use Rattle.rules.specs.Step.{Here, here, headerAt, rowAt, lengthAt, dwordsAt, pointerOf, nested, baseMissing, pointed, ofStructure, ranOff, unknownHeader, wrongLength, pastTheWindow, bitNotAllowed, nestedStart, valueBroken, rangeOutside, baseNeverSet, stepChecks, stepOf}
+use Rattle.rules.specs.Step.{Here, here, headerAt, rowAt, lengthAt, dwordsAt, pointerOf, nested, baseMissing, pointed, ofStructure}
+use Rattle.rules.specs.Step.{ranOff, unknownHeader, wrongLength, pastTheWindow, bitNotAllowed, nestedStart, valueBroken}
+use Rattle.rules.specs.Step.{rangeOutside, baseNeverSet, stepChecks, stepOf}
 use Rattle.rules.specs.File.{Offer, sizeWrong, distanceWrong, fileCountsWrong, bufferShort, fileChecks}
 use Rattle.rules.proofs.Searching.{never-both, first-found, and-left}
 use Rattle.rules.proofs.Trying.{fails-not-pass, same-fault, stays-failed, refuse-passes}
@@ -53,7 +57,8 @@ record FoundAt (reason : Reason) (window from n : ℕ) (f : Fault) : Type 0 wher
   below : at < n
   is : fault reason window (from + at) ≡ f
 
-found-fault : (reason : Reason) (window from n : ℕ) (bad : ℕ → Bool) {f : Fault} → refuseFound reason window from (firstOf bad n) ≡ Fails f → FoundAt reason window from n f
+found-fault : (reason : Reason) (window from n : ℕ) (bad : ℕ → Bool) {f : Fault}
+    → refuseFound reason window from (firstOf bad n) ≡ Fails f → FoundAt reason window from n f
 found-fault reason window from n bad {f} e = by (firstOf bad n) refl e
   where
     by : (x : Found) → firstOf bad n ≡ x → refuseFound reason window from x ≡ Fails f → FoundAt reason window from n f
@@ -61,12 +66,14 @@ found-fault reason window from n bad {f} e = by (firstOf bad n) refl e
     by (At k) p q = record { at = k; below = omega (arith, first-found bad 0 n p .below); is = same-fault q }
 
 -- a list of checks fails at its first, or behind it
-split : {A : Type 0} (a : A) (check : A → Verdict) (checks : List (A → Verdict)) {f : Fault} → firstFault (check ∷ checks) a ≡ Fails f
+split : {A : Type 0} (a : A) (check : A → Verdict) (checks : List (A → Verdict)) {f : Fault}
+    → firstFault (check ∷ checks) a ≡ Fails f
     → (check a ≡ Fails f) ⊎ ((check a ≡ Pass) × (firstFault checks a ≡ Fails f))
 unfolding tried
 split a check checks {f} e = by (check a) refl e
   where
-    by : (v : Verdict) → check a ≡ v → tried checks v a ≡ Fails f → (check a ≡ Fails f) ⊎ ((check a ≡ Pass) × (firstFault checks a ≡ Fails f))
+    by : (v : Verdict) → check a ≡ v → tried checks v a ≡ Fails f
+        → (check a ≡ Fails f) ⊎ ((check a ≡ Pass) × (firstFault checks a ≡ Fails f))
     by Pass p q = inr (p, q)
     by (Fails g) p q = inl (p ∙ sym (stays-failed checks g a) ∙ q)
 
@@ -91,7 +98,8 @@ module _ (bAt b sAt t address n : ℕ) {i : ℕ} where
   unfolding heldAt
   held-batch e = by (holdsDwords (lent bAt b) address n) (holdsDwords (lent sAt t) address n) refl e
     where
-      by : (x y : Bool) → holdsDwords (lent bAt b) address n ≡ x → cond x (InBatch ((address - bAt) / 4)) (cond y (InState ((address - sAt) / 4)) Nowhere) ≡ InBatch i → i + n ≤ b
+      by : (x y : Bool) → holdsDwords (lent bAt b) address n ≡ x
+          → cond x (InBatch ((address - bAt) / 4)) (cond y (InState ((address - sAt) / 4)) Nowhere) ≡ InBatch i → i + n ≤ b
       by true y p q = omega (arith, holds-count bAt b address n p, same-start q)
       by false true p q = absurd (let z : _≡_ {A = ℕ} 0 1 = cc in omega arith)
       by false false p q = absurd (let z : _≡_ {A = ℕ} 0 1 = cc in omega arith)
@@ -100,13 +108,15 @@ module _ (bAt b sAt t address n : ℕ) {i : ℕ} where
   unfolding heldAt
   held-state e = by (holdsDwords (lent bAt b) address n) (holdsDwords (lent sAt t) address n) refl e
     where
-      by : (x y : Bool) → holdsDwords (lent sAt t) address n ≡ y → cond x (InBatch ((address - bAt) / 4)) (cond y (InState ((address - sAt) / 4)) Nowhere) ≡ InState i → i + n ≤ t
+      by : (x y : Bool) → holdsDwords (lent sAt t) address n ≡ y
+          → cond x (InBatch ((address - bAt) / 4)) (cond y (InState ((address - sAt) / 4)) Nowhere) ≡ InState i → i + n ≤ t
       by true y p q = absurd (let z : _≡_ {A = ℕ} 0 1 = cc in omega arith)
       by false true p q = omega (arith, holds-count sAt t address n p, same-state q)
       by false false p q = absurd (let z : _≡_ {A = ℕ} 0 1 = cc in omega arith)
 
 -- only rows 14 and 15 point to a structure, and both have two dwords
-picked : (a b : Bool) (x y : Pointer) {kind : Kind} {offset : ℕ} → cond a x (cond b y NoPointer) ≡ PointsTo kind offset → (a ≡ true) ⊎ (b ≡ true)
+picked : (a b : Bool) (x y : Pointer) {kind : Kind} {offset : ℕ} → cond a x (cond b y NoPointer) ≡ PointsTo kind offset
+    → (a ≡ true) ⊎ (b ≡ true)
 picked true b x y e = inl refl
 picked false true x y e = inr refl
 picked false false x y e = absurd (let z : _≡_ {A = ℕ} 0 1 = cc in omega arith)
@@ -129,7 +139,8 @@ module _ (c : Capture) (s : Cursor) (w : Within c s) where
   header-place : (t : Bool) (reason : Reason) {f : Fault} → refuseIf t (fault reason batchWindow (s .at)) ≡ Fails f → InPlace c f
   header-place t reason e = rw (← given-fault t e .1) (inl (refl, w .position))
 
-  dword-place : (n : ℕ) (bad : ℕ → Bool) (reason : Reason) {f : Fault} → s .at + n ≤ length (c .batch) → refuseFound reason batchWindow (s .at) (firstOf bad n) ≡ Fails f → InPlace c f
+  dword-place : (n : ℕ) (bad : ℕ → Bool) (reason : Reason) {f : Fault} → s .at + n ≤ length (c .batch)
+      → refuseFound reason batchWindow (s .at) (firstOf bad n) ≡ Fails f → InPlace c f
   dword-place n bad reason l e =
       let q = found-fault reason batchWindow (s .at) n bad e in
       let b = q .below in
@@ -140,7 +151,8 @@ module _ (c : Capture) (s : Cursor) (w : Within c s) where
       → pointerOf (rowAt (c .batch) (s .at)) (dwordsAt (c .batch) (s .at)) ≡ PointsTo kind offset → s .at + 1 ≤ length (c .batch)
   pointer-place l kind offset e = let h = two-long (rowAt (c .batch) (s .at)) (headerAt (c .batch) (s .at)) (dwordsAt (c .batch) (s .at)) e in omega arith
 
-  base-place : {f : Fault} (p : Pointer) (b : Base) → ((kind : Kind) (offset : ℕ) → p ≡ PointsTo kind offset → s .at + 1 ≤ length (c .batch)) → (reason : Reason)
+  base-place : {f : Fault} (p : Pointer) (b : Base)
+      → ((kind : Kind) (offset : ℕ) → p ≡ PointsTo kind offset → s .at + 1 ≤ length (c .batch)) → (reason : Reason)
       → refuseIf (baseMissing p b) (fault reason batchWindow (s .at + 1)) ≡ Fails f → InPlace c f
   base-place NoPointer b l reason e = absurd (fails-not-pass (sym e))
   base-place (PointsTo kind offset) Unset l reason e = rw (← same-fault e) (inl (refl, l kind offset refl))
@@ -150,12 +162,15 @@ module _ (c : Capture) (s : Cursor) (w : Within c s) where
   asked : Kind → ℕ → Asked
   asked kind address = askedAt (c .batch) (c .batchAt) (c .state) (c .stateAt) kind address (s .at + 1)
 
-  nowhere-place : {f : Fault} (kind : Kind) (address : ℕ) → s .at + 1 ≤ length (c .batch) → structureNowhere (asked kind address) ≡ Fails f → InPlace c f
+  nowhere-place : {f : Fault} (kind : Kind) (address : ℕ) → s .at + 1 ≤ length (c .batch)
+      → structureNowhere (asked kind address) ≡ Fails f → InPlace c f
   unfolding asked structureNowhere
   nowhere-place kind address l e = rw (← given-fault (nowhere (asked kind address .held)) e .1) (inl (refl, l))
 
-  held-place : {f : Fault} (kind : Kind) (address : ℕ) (h : Held) → heldAt (lent (c .batchAt) (length (c .batch))) (lent (c .stateAt) (length (c .state))) address (layoutOf kind .dwords) ≡ h
-      → nowhere h ≡ false → (bad : ℕ → Bool) (reason : Reason) → refuseFound reason (heldWindow h) (heldFrom h) (firstOf bad (layoutOf kind .dwords)) ≡ Fails f → InPlace c f
+  held-place : {f : Fault} (kind : Kind) (address : ℕ) (h : Held)
+      → heldAt (lent (c .batchAt) (length (c .batch))) (lent (c .stateAt) (length (c .state))) address (layoutOf kind .dwords) ≡ h
+      → nowhere h ≡ false → (bad : ℕ → Bool) (reason : Reason)
+      → refuseFound reason (heldWindow h) (heldFrom h) (firstOf bad (layoutOf kind .dwords)) ≡ Fails f → InPlace c f
   held-place kind address (InBatch i) eh n bad reason e =
       let q = found-fault reason batchWindow i (layoutOf kind .dwords) bad e in
       let b = q .below in
@@ -166,13 +181,15 @@ module _ (c : Capture) (s : Cursor) (w : Within c s) where
       rw (← q .is) (inr (refl, omega (arith, held-state _ _ _ _ address (layoutOf kind .dwords) eh)))
   held-place kind address Nowhere eh n bad reason e = absurd (never-both refl n)
 
-  structure-place : {f : Fault} (kind : Kind) (address : ℕ) → structureNowhere (asked kind address) ≡ Pass → (structureBit (asked kind address) ≡ Fails f) ⊎ (structureValue (asked kind address) ≡ Fails f) → InPlace c f
+  structure-place : {f : Fault} (kind : Kind) (address : ℕ) → structureNowhere (asked kind address) ≡ Pass
+      → (structureBit (asked kind address) ≡ Fails f) ⊎ (structureValue (asked kind address) ≡ Fails f) → InPlace c f
   unfolding asked structureNowhere structureBit structureValue
   structure-place kind address p (inl e) = held-place kind address _ refl (refuse-passes _ _ p) _ _ e
   structure-place kind address p (inr e) = held-place kind address _ refl (refuse-passes _ _ p) _ _ e
 
   -- the four checks of a structure, of the command's pointer and the base
-  pointed-place : {f : Fault} (p : Pointer) (b : Base) → ((kind : Kind) (offset : ℕ) → p ≡ PointsTo kind offset → s .at + 1 ≤ length (c .batch))
+  pointed-place : {f : Fault} (p : Pointer) (b : Base)
+      → ((kind : Kind) (offset : ℕ) → p ≡ PointsTo kind offset → s .at + 1 ≤ length (c .batch))
       → (pointed structureNowhere c (s .at + 1) p b ≡ Fails f)
       ⊎ ((pointed structureNowhere c (s .at + 1) p b ≡ Pass)
       × ((pointed structureBit c (s .at + 1) p b ≡ Fails f) ⊎ (pointed structureValue c (s .at + 1) p b ≡ Fails f))) → InPlace c f
@@ -233,7 +250,8 @@ abbrev AllSay : {A : Type 0} → (Fault → Type 0) → List (A → Verdict) →
 AllSay said [] a = Unit {0}
 AllSay said (check ∷ checks) a = ((f : Fault) → check a ≡ Fails f → said f) × AllSay said checks a
 
-list-says : {A : Type 0} (said : Fault → Type 0) (checks : List (A → Verdict)) (a : A) → AllSay said checks a → (f : Fault) → firstFault checks a ≡ Fails f → said f
+list-says : {A : Type 0} (said : Fault → Type 0) (checks : List (A → Verdict)) (a : A) → AllSay said checks a → (f : Fault)
+    → firstFault checks a ≡ Fails f → said f
 list-says said [] a p f e = absurd (none-fails a e)
 list-says said (check ∷ checks) a p f e = ⊎-elim (p .0 f) (λ q. list-says said checks a (p .1) f (q .1)) (split a check checks e)
 

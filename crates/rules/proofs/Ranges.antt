@@ -15,7 +15,8 @@ use Rattle.rules.specs.declared.Windows.{Windows}
 use Rattle.rules.specs.declared.Within.the-variants.{BatchOnly, ScratchOnly, AnyWindow}
 use Rattle.rules.specs.declared.Verdict.the-variants.{Pass}
 use Rattle.rules.specs.Words.{some, someTwo}
-use Rattle.rules.specs.Windows.{Capture, windowLimit, pageBytes, countsWrong, unaligned, window, listed, end, windowsOf, endsTooHigh, shareByte, windowChecks, lengthsOf, Lengths, windowFault, holds, Inside, windowsWithin, fits}
+use Rattle.rules.specs.Windows.{Capture, windowLimit, pageBytes, countsWrong, unaligned, window, listed, end, windowsOf}
+use Rattle.rules.specs.Windows.{endsTooHigh, shareByte, windowChecks, lengthsOf, Lengths, windowFault, holds, Inside, windowsWithin, fits}
 use Rattle.rules.proofs.Searching.{either, never-both, some-left, some-right, or-cases, and-left, and-right}
 use Rattle.rules.proofs.Trying.{all-pass, refuse-passes}
 
@@ -28,7 +29,8 @@ inside w a n e = record {
 }
 
 -- an element that a test finds, by its place in the list
-pub some-at : {A : Type 0} (p : A → Bool) (d : A) (l : List A) → some p l ≡ true → (i : ℕ) × (i < length l) × (p (getD l i d) ≡ true)
+pub some-at : {A : Type 0} (p : A → Bool) (d : A) (l : List A) → some p l ≡ true
+    → (i : ℕ) × (i < length l) × (p (getD l i d) ≡ true)
 unfolding some
 some-at p d [] e = absurd (never-both e refl)
 some-at p d (x ∷ xs) e =
@@ -41,7 +43,8 @@ none-at p d [] e i h = absurd (not-suc-le-zero h)
 none-at p d (x ∷ xs) e zero h = some-left (p x) (some p xs) e
 none-at p d (x ∷ xs) e (suc i) h = none-at p d xs (some-right (p x) (some p xs) e) i (le-of-suc-le-suc h)
 
-pub no-two-at : {A : Type 0} (p : A → A → Bool) (d : A) (l : List A) → someTwo p l ≡ false → (i j : ℕ) → i < j → j < length l → p (getD l i d) (getD l j d) ≡ false
+pub no-two-at : {A : Type 0} (p : A → A → Bool) (d : A) (l : List A) → someTwo p l ≡ false → (i j : ℕ) → i < j → j < length l
+    → p (getD l i d) (getD l j d) ≡ false
 unfolding someTwo
 no-two-at p d [] e i j h k = absurd (not-suc-le-zero k)
 no-two-at p d (x ∷ xs) e i zero h k = absurd (not-suc-le-zero h)
@@ -69,7 +72,8 @@ pub record OneHolds (ws : List Window) (address bytes : ℕ) : Type 0 where
   pub holds : Inside (getD ws which noWindow) address bytes
   pub only : (i : ℕ) → i < length ws → Inside (getD ws i noWindow) address bytes → i ≡ which
 
-pub one-holds : (ws : List Window) (address bytes : ℕ) → 0 < bytes → someTwo shareByte ws ≡ false → some (λ w. holds w address bytes) ws ≡ true → OneHolds ws address bytes
+pub one-holds : (ws : List Window) (address bytes : ℕ) → 0 < bytes → someTwo shareByte ws ≡ false
+    → some (λ w. holds w address bytes) ws ≡ true → OneHolds ws address bytes
 one-holds ws a n h apart e =
     let f = some-at (λ w. holds w a n) noWindow ws e in
     record { which = f .0; listed = f .1; holds = inside _ a n (f .2); only = same (f .0) (f .1) (inside _ a n (f .2)) }
@@ -77,7 +81,8 @@ one-holds ws a n h apart e =
     apart-at : (i j : ℕ) → i < j → j < length ws → Inside (getD ws i noWindow) a n → Inside (getD ws j noWindow) a n → ⊥
     apart-at i j l k p q = never-both (both-share (getD ws i noWindow) (getD ws j noWindow) a n h p q) (no-two-at shareByte noWindow ws apart i j l k)
 
-    same : (k : ℕ) → k < length ws → Inside (getD ws k noWindow) a n → (i : ℕ) → i < length ws → Inside (getD ws i noWindow) a n → i ≡ k
+    same : (k : ℕ) → k < length ws → Inside (getD ws k noWindow) a n → (i : ℕ) → i < length ws → Inside (getD ws i noWindow) a n
+        → i ≡ k
     same k lk p i li q =
         ⊎-elim (λ t. absurd (apart-at i k (ltb-true i k t) lk q p))
         (λ t.
@@ -117,7 +122,8 @@ pub record Fitting (w : Windows) (address bytes : ℕ) : Type 0 where
   pub one : OneHolds (listed w) address bytes
   pub below : address + bytes ≤ 2 ^ 48
 
-pub fits-one : (w : Windows) (address bytes : ℕ) → Sound (listed w) → 0 < bytes → fits w AnyWindow address bytes ≡ true → Fitting w address bytes
+pub fits-one : (w : Windows) (address bytes : ℕ) → Sound (listed w) → 0 < bytes → fits w AnyWindow address bytes ≡ true
+    → Fitting w address bytes
 unfolding fits windowsWithin
 fits-one w a n s h e =
     let o = one-holds (listed w) a n h (s .apart) e in

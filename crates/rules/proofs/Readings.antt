@@ -37,7 +37,8 @@ structure-read batch batchAt state stateAt kind address pointer = record { answe
 at-zero : (f : Fault) → AtZero f → fault (f .reason) batchWindow 0 ≡ f
 at-zero f p = λ i. record { reason = f .reason; window = sym (p .0) i; index = sym (p .1) i }
 
-opened-by-told : (v : Verdict) (t : Trailer) → ((f : Fault) → v ≡ Fails f → AtZero f) → openedTold (openedBy v t) ≡ told v (numbersOf (Holds (contentsOf t)))
+opened-by-told : (v : Verdict) (t : Trailer) → ((f : Fault) → v ≡ Fails f → AtZero f)
+    → openedTold (openedBy v t) ≡ told v (numbersOf (Holds (contentsOf t)))
 unfolding openedVerdict numbersOf told
 opened-by-told Pass t p = refl
 opened-by-told (Fails f) t p = ap (λ (g : Fault). told (Fails g) []) (at-zero f (p f refl))

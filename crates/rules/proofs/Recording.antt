@@ -64,7 +64,8 @@ short-counted (byBit b f g) size header s e =
 short-counted (groups n) size header s e =
     let x = field header 7 0 in
     let i = and-right (eqb ((x + 1) % size) 0) _ e in
-    let p = whole-groups x size n (eqb-true _ 0 (and-left (eqb ((x + 1) % size) 0) _ e)) (leb-true _ n (and-right (leb 1 ((x + 1) / size)) _ i)) (leb-true (n * size) 254 (and-right (leb 1 size) _ s)) in
+    let p = whole-groups x size n (eqb-true _ 0 (and-left (eqb ((x + 1) % size) 0) _ e)) (leb-true _ n (and-right (leb 1 ((x + 1) / size)) _ i))
+    (leb-true (n * size) 254 (and-right (leb 1 size) _ s)) in
     omega arith
 
 pub length-fits : (r header : ℕ) → r < rowCount → lengthRight r header ≡ true → lengthOf r header < 256
@@ -76,7 +77,8 @@ level-fits First = omega arith
 level-fits (Second back) = omega arith
 
 -- every command of the walk fits a record
-pub fits-record : (c : Capture) (s : Cursor) {k : Command} {a : After} → length (c .batch) ≤ windowLimit → stepOf c s ≡ Taken k a → Recordable k
+pub fits-record : (c : Capture) (s : Cursor) {k : Command} {a : After} → length (c .batch) ≤ windowLimit → stepOf c s ≡ Taken k a
+    → Recordable k
 unfolding commandAt
 fits-record c s l e =
     let t = took c s e in
@@ -133,7 +135,8 @@ all-read-back [] p = refl
 all-read-back (k ∷ ks) p = ap₂ (λ (j : Command) (js : List Command). j ∷ js) (reads-back k (p .0)) (all-read-back ks (p .1))
 
 -- every command that a run tells fits
-run-fits : (left m : ℕ) (c : Capture) (s : Cursor) (o : Outcome) → length (c .batch) ≤ windowLimit → stepOf c s ≡ o → AllRecordable (commandsOf (cut m (trace left c s o)))
+run-fits : (left m : ℕ) (c : Capture) (s : Cursor) (o : Outcome) → length (c .batch) ≤ windowLimit → stepOf c s ≡ o
+    → AllRecordable (commandsOf (cut m (trace left c s o)))
 unfolding trace cut commandsOf
 run-fits zero m c s o l e = tt
 run-fits (suc left) m c s (Refused f) l e = tt
@@ -143,10 +146,12 @@ run-fits (suc left) (suc m) c s (Taken k Ends) l e = (fits-record c s l e, tt)
 run-fits (suc left) (suc m) c s (Taken k (To t)) l e = (fits-record c s l e, run-fits left m c t (stepOf c t) l refl)
 
 -- THE RECORDS OF A WALK NAME ITS COMMANDS
-pub walk-read-back : (base : Base) (c : Capture) (room : ℕ) → commandsIn (wordsOf (commandsOf (walk base c room))) ≡ commandsOf (walk base c room)
+pub walk-read-back : (base : Base) (c : Capture) (room : ℕ)
+    → commandsIn (wordsOf (commandsOf (walk base c room))) ≡ commandsOf (walk base c room)
 unfolding commandsOf wordsOf commandsIn
 walk-read-back base c room = by (windowFault (lengthsOf c)) refl
   where
-    by : (v : Verdict) → windowFault (lengthsOf c) ≡ v → commandsIn (wordsOf (commandsOf (walk base c room))) ≡ commandsOf (walk base c room)
+    by : (v : Verdict) → windowFault (lengthsOf c) ≡ v
+        → commandsIn (wordsOf (commandsOf (walk base c room))) ≡ commandsOf (walk base c room)
     by Pass e = rw (walk-sound base c room e) (all-read-back _ (run-fits budget room c (start base) (stepOf c (start base)) (counted (lengthsOf c) e .batch) refl))
     by (Fails f) e = rw (walk-unsound base c room e)

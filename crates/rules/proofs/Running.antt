@@ -20,7 +20,8 @@ pub leads-on : (c : Capture) {s t u : Cursor} {ks ls : List Command} → Leads c
 leads-on c stays m = m
 leads-on c (onward e l) m = onward e (leads-on c l m)
 
-pub trace-follows : (c : Capture) {s t : Cursor} {ks : List Command} (m : ℕ) → Leads c s ks t → traceFrom (length ks + m) c s ≡ follow ks (traceFrom m c t)
+pub trace-follows : (c : Capture) {s t : Cursor} {ks : List Command} (m : ℕ) → Leads c s ks t
+    → traceFrom (length ks + m) c s ≡ follow ks (traceFrom m c t)
 unfolding follow trace
 trace-follows c {s = s} m stays = ap (λ (n : ℕ). traceFrom n c s) (zero-add m)
 trace-follows c {s = s} m (onward {t = u} {command = k} {commands = ks} e l) = rw (suc-add (length ks) m, e) (ap (then k) (trace-follows c m l))

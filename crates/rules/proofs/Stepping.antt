@@ -24,7 +24,9 @@ use Rattle.rules.specs.Masks.{bitWrong}
 use Rattle.rules.specs.Values.{valueWrong}
 use Rattle.rules.specs.Addresses.{rangeWrong}
 use Rattle.rules.specs.Structures.{structureNowhere, structureBit, structureValue, structureChecks}
-use Rattle.rules.specs.Step.{Here, here, headerAt, rowAt, lengthAt, dwordsAt, pointerOf, nested, baseMissing, ofStructure, ranOff, unknownHeader, wrongLength, pastTheWindow, bitNotAllowed, nestedStart, valueBroken, rangeOutside, baseNeverSet, stepChecks, moveOf, commandAt, outcomeOf, stepOf}
+use Rattle.rules.specs.Step.{Here, here, headerAt, rowAt, lengthAt, dwordsAt, pointerOf, nested, baseMissing, ofStructure}
+use Rattle.rules.specs.Step.{ranOff, unknownHeader, wrongLength, pastTheWindow, bitNotAllowed, nestedStart, valueBroken}
+use Rattle.rules.specs.Step.{rangeOutside, baseNeverSet, stepChecks, moveOf, commandAt, outcomeOf, stepOf}
 use Rattle.rules.proofs.Searching.{none-found}
 use Rattle.rules.proofs.Trying.{all-pass, no-fault, refuse-passes, search-clear, fails-not-pass}
 
@@ -40,8 +42,10 @@ pub record Passed (c : Capture) (s : Cursor) : Type 0 where
   pub whole : s .at + lengthAt (c .batch) (s .at) ≤ length (c .batch)
   pub bits : (k : ℕ) → k < lengthAt (c .batch) (s .at) → bitWrong (rowAt (c .batch) (s .at)) (dwordsAt (c .batch) (s .at)) k ≡ false
   pub unnested : nested (rowAt (c .batch) (s .at)) (s .level) ≡ false
-  pub values : (k : ℕ) → k < lengthAt (c .batch) (s .at) → valueWrong (rowAt (c .batch) (s .at)) (dwordsAt (c .batch) (s .at)) k ≡ false
-  pub ranges : (k : ℕ) → k < lengthAt (c .batch) (s .at) → rangeWrong (windowsOf c) (rowAt (c .batch) (s .at)) (dwordsAt (c .batch) (s .at)) k ≡ false
+  pub values : (k : ℕ) → k < lengthAt (c .batch) (s .at)
+      → valueWrong (rowAt (c .batch) (s .at)) (dwordsAt (c .batch) (s .at)) k ≡ false
+  pub ranges : (k : ℕ) → k < lengthAt (c .batch) (s .at)
+      → rangeWrong (windowsOf c) (rowAt (c .batch) (s .at)) (dwordsAt (c .batch) (s .at)) k ≡ false
   pub based : baseMissing (pointerOf (rowAt (c .batch) (s .at)) (dwordsAt (c .batch) (s .at))) (s .base) ≡ false
   pub held : ofStructure structureNowhere (here c s) ≡ Pass
   pub structureBits : ofStructure structureBit (here c s) ≡ Pass
@@ -66,11 +70,13 @@ pub took : (c : Capture) (s : Cursor) {k : Command} {a : After} → stepOf c s �
 unfolding stepOf
 took c s {k} {a} e = by (firstFault stepChecks (here c s)) refl e
   where
-    by : (v : Verdict) → firstFault stepChecks (here c s) ≡ v → outcomeOf v (commandAt (c .batch) s) (moveAt c s) ≡ Taken k a → Took c s k a
+    by : (v : Verdict) → firstFault stepChecks (here c s) ≡ v → outcomeOf v (commandAt (c .batch) s) (moveAt c s) ≡ Taken k a
+        → Took c s k a
     by Pass p q = record { passes = p; command = taken-command q; move = taken-after q }
     by (Fails f) p q = absurd (never-taken q)
 
-pub takes : (c : Capture) (s : Cursor) → firstFault stepChecks (here c s) ≡ Pass → stepOf c s ≡ Taken (commandAt (c .batch) s) (moveAt c s)
+pub takes : (c : Capture) (s : Cursor) → firstFault stepChecks (here c s) ≡ Pass
+    → stepOf c s ≡ Taken (commandAt (c .batch) s) (moveAt c s)
 unfolding stepOf
 takes c s e = rw e
 

@@ -21,7 +21,8 @@ use Rattle.rules.specs.Addresses.{rangeWrong}
 use Rattle.rules.proofs.Ranges.{in-batch, in-scratch}
 
 -- an address that is used and whose range is not outside fits where its rule says
-pub access-fits : (w : Windows) (r : ℕ) (d : List ℕ) (k : ℕ) {bytes : ℕ} {allowed : Within} → accessAt r d k ≡ Reaches bytes allowed → rangeWrong w r d k ≡ false
+pub access-fits : (w : Windows) (r : ℕ) (d : List ℕ) (k : ℕ) {bytes : ℕ} {allowed : Within} → accessAt r d k ≡ Reaches bytes allowed
+    → rangeWrong w r d k ≡ false
     → fits w allowed (addressAt d k) bytes ≡ true
 unfolding rangeWrong
 access-fits w r d k e h = not-false _ (rw e at h)
@@ -63,7 +64,8 @@ eight-or-four header e = by (bit header 21) (eqb-true _ _ e)
     by false q = rw q
 
 -- A STORE THAT PASSED 13 LIES IN SCRATCH.
-pub stores-in-scratch : (w : Windows) (r : ℕ) (d : List ℕ) (low bytes : ℕ) → Stores d r low bytes → lengthRight r (getD d 0 0) ≡ true → rangeWrong w r d low ≡ false
+pub stores-in-scratch : (w : Windows) (r : ℕ) (d : List ℕ) (low bytes : ℕ) → Stores d r low bytes
+    → lengthRight r (getD d 0 0) ≡ true → rangeWrong w r d low ≡ false
     → Inside (w .scratch) (addressAt d low) bytes
 stores-in-scratch w r d low bytes row-four h e =
     in-scratch w _ _ (access-fits w 4 d 1 (store-reaches d ∙ ap (λ n. Reaches n ScratchOnly) (eight-or-four (getD d 0 0) h)) e)

@@ -65,7 +65,8 @@ key-found r h = eqb-true _ _ (at-each (λ r. eqb (rowOf (theRow r .key)) r) rowC
 known-type : Row → Bool
 known-type r = eqb (field (r .key) 31 29) 0 || eqb (field (r .key) 31 29) 3
 
-rowless : (key : ℕ) (rs : List Row) → some (λ r. not (known-type r)) rs ≡ false → (field key 31 29 ≡ 0 → ⊥) → (field key 31 29 ≡ 3 → ⊥) → rowFrom key rs ≡ length rs
+rowless : (key : ℕ) (rs : List Row) → some (λ r. not (known-type r)) rs ≡ false → (field key 31 29 ≡ 0 → ⊥)
+    → (field key 31 29 ≡ 3 → ⊥) → rowFrom key rs ≡ length rs
 unfolding rowFrom some known-type
 rowless key [] t n m = refl
 rowless key (r ∷ rs) t n m =

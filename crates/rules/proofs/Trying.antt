@@ -67,7 +67,8 @@ module _ {A : Type 0} (a : A) where
   no-fault (check ∷ checks) p = rw (p .0) (no-fault checks (p .1))
 
   -- a list tried behind another
-  pub tried-append : (checks more : List (A → Verdict)) (said : Verdict) → tried (checks ++ more) said a ≡ tried more (tried checks said a) a
+  pub tried-append : (checks more : List (A → Verdict)) (said : Verdict)
+      → tried (checks ++ more) said a ≡ tried more (tried checks said a) a
   unfolding tried
   tried-append [] more said = refl
   tried-append (check ∷ checks) more Pass = tried-append checks more (check a)
@@ -82,7 +83,8 @@ fails-first (b ∷ before) check after a p e =
     fails-first before check after a (p .1) e ∙ sym (ap (λ v. tried (before ++ (check ∷ after)) v a) (p .0))
 
 -- so a first fault is the one that trying the list gives, and there is one only
-pub first-is : {A : Type 0} {checks : List (A → Verdict)} {a : A} {f : Fault} → FirstFault checks a f → firstFault checks a ≡ Fails f
+pub first-is : {A : Type 0} {checks : List (A → Verdict)} {a : A} {f : Fault} → FirstFault checks a f
+    → firstFault checks a ≡ Fails f
 first-is {a = a} p = ap (λ l. firstFault l a) (p .order) ∙ sym (fails-first (p .before) (p .check) (p .after) a (p .passes) (p .fails))
 
 -- a check with one place passes exactly where its condition does not hold
@@ -91,6 +93,7 @@ refuse-passes true f e = absurd (fails-not-pass e)
 refuse-passes false f e = refl
 
 -- and one with a search where the search finds nothing
-pub search-clear : (reason : Reason) (window from : ℕ) (found : Found) → refuseFound reason window from found ≡ Pass → found ≡ Nothing
+pub search-clear : (reason : Reason) (window from : ℕ) (found : Found) → refuseFound reason window from found ≡ Pass
+    → found ≡ Nothing
 search-clear reason window from Nothing e = refl
 search-clear reason window from (At k) e = absurd (fails-not-pass e)

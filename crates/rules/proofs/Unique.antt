@@ -10,7 +10,10 @@ use Rattle.rules.specs.declared.Answer.{Answer}
 use Rattle.rules.specs.declared.Command.{Command}
 use Rattle.rules.specs.declared.Opened.{Opened}
 use Rattle.rules.specs.declared.Reason.{Reason}
-use Rattle.rules.specs.declared.Reason.the-variants.{WrongCounts, AddressUnaligned, EndsTooHigh, WindowsShare, BudgetSpent, RanOff, UnknownHeader, WrongLength, PastTheWindow, BitNotAllowed, NestedStart, ValueBroken, RangeOutside, BaseNeverSet, StructureNowhere, StructureBit, StructureValue, RecordsFull, FileSize, FileDistance, BufferShort}
+use Rattle.rules.specs.declared.Reason.the-variants.{WrongCounts, AddressUnaligned, EndsTooHigh, WindowsShare, BudgetSpent, RanOff}
+use Rattle.rules.specs.declared.Reason.the-variants.{UnknownHeader, WrongLength, PastTheWindow, BitNotAllowed, NestedStart, ValueBroken}
+use Rattle.rules.specs.declared.Reason.the-variants.{RangeOutside, BaseNeverSet, StructureNowhere, StructureBit, StructureValue}
+use Rattle.rules.specs.declared.Reason.the-variants.{RecordsFull, FileSize, FileDistance, BufferShort}
 use Rattle.rules.specs.declared.Verdict.{Verdict}
 use Rattle.rules.specs.declared.Verdict.the-variants.{Pass, Fails}
 use Rattle.rules.specs.Windows.{Capture}
@@ -20,13 +23,16 @@ use Rattle.rules.specs.Walk.{Run, commandsOf, endOf, answerOf}
 use Rattle.rules.specs.Records.{Checked, wordsOf, wordsFor}
 use Rattle.rules.specs.File.{FileRead, Judged}
 
-pub one-check : {base : Base} {c : Capture} {old new new′ : List ℕ} {r r′ : Answer} → Checked base c old r new → Checked base c old r′ new′ → (r ≡ r′) × (new ≡ new′)
+pub one-check : {base : Base} {c : Capture} {old new new′ : List ℕ} {r r′ : Answer} → Checked base c old r new
+    → Checked base c old r′ new′ → (r ≡ r′) × (new ≡ new′)
 one-check p q = (p .answers ∙ sym (q .answers), p .written ∙ sym (q .written))
 
-pub one-reading : {file batch state b b′ s s′ : List ℕ} {r r′ : Opened} → FileRead file batch state r b s → FileRead file batch state r′ b′ s′ → (r ≡ r′) × (b ≡ b′) × (s ≡ s′)
+pub one-reading : {file batch state b b′ s s′ : List ℕ} {r r′ : Opened} → FileRead file batch state r b s
+    → FileRead file batch state r′ b′ s′ → (r ≡ r′) × (b ≡ b′) × (s ≡ s′)
 one-reading p q = (p .answers ∙ sym (q .answers), p .batchFilled ∙ sym (q .batchFilled), p .stateFilled ∙ sym (q .stateFilled))
 
-pub one-judgement : {base : Base} {file batch state records b b′ s s′ w w′ : List ℕ} {r r′ : Answer} → Judged base file batch state records r b s w → Judged base file batch state records r′ b′ s′ w′
+pub one-judgement : {base : Base} {file batch state records b b′ s s′ w w′ : List ℕ} {r r′ : Answer}
+    → Judged base file batch state records r b s w → Judged base file batch state records r′ b′ s′ w′
     → (r ≡ r′) × (b ≡ b′) × (s ≡ s′) × (w ≡ w′)
 one-judgement p q =
     (p .answers ∙ sym (q .answers), p .batchFilled ∙ sym (q .batchFilled), p .stateFilled ∙ sym (q .stateFilled), p .written ∙ sym (q .written))

@@ -93,7 +93,8 @@ pub record Completes (c : Capture) (room n : ℕ) (s : Cursor) (run : Run) : Typ
 -- and every check passes at each command that it tells
 pub record Explained (c : Capture) (room n : ℕ) (s : Cursor) (run : Run) : Type 0 where
   pub way : Stops c room n s run ⊎ Completes c room n s run
-  pub earlier : (ks : List Command) (t : Cursor) → Leads c s ks t → length ks < length (commandsOf run) → faultAt c room (n + length ks) t ≡ Pass
+  pub earlier : (ks : List Command) (t : Cursor) → Leads c s ks t → length ks < length (commandsOf run)
+      → faultAt c room (n + length ks) t ≡ Pass
 
 same-way : {k l : Command} {t u : Cursor} → Taken k (To t) ≡ Taken l (To u) → t ≡ u
 same-way e = cc
@@ -102,14 +103,16 @@ never-ends : {k l : Command} {t : Cursor} → Taken k (To t) ≡ Taken l Ends �
 never-ends e = let z : _≡_ {A = ℕ} 0 1 = cc in omega arith
 
 -- none is told, and the run stops where it stands
-stopped : (c : Capture) (room n : ℕ) (s : Cursor) (f : Fault) → faultAt c room n s ≡ Fails f → Explained c room n s (ended (Fails f))
+stopped : (c : Capture) (room n : ℕ) (s : Cursor) (f : Fault) → faultAt c room n s ≡ Fails f
+    → Explained c room n s (ended (Fails f))
 unfolding commandsOf endOf
 stopped c room n s f e = record {
   way = inl (record { cursor = s; fault = f; reached = stays; first = rw (add-zero n) e; told = refl });
   earlier = λ ks t l h. absurd (omega arith);
 }
 
-completed : (c : Capture) (room n : ℕ) (s : Cursor) (k : Command) → stepOf c s ≡ Taken k Ends → faultAt c room n s ≡ Pass → Explained c room n s (then k (ended Pass))
+completed : (c : Capture) (room n : ℕ) (s : Cursor) (k : Command) → stepOf c s ≡ Taken k Ends → faultAt c room n s ≡ Pass
+    → Explained c room n s (then k (ended Pass))
 unfolding commandsOf endOf
 completed c room n s k e p = record {
   way = inr (record { cursor = s; before = []; last = k; reached = stays; ends = e; commands = refl; told = refl });
@@ -125,7 +128,8 @@ module _ (c : Capture) (room n : ℕ) (s t : Cursor) (k : Command) (run : Run) (
   moved : (m : ℕ) (u : Cursor) (v : Verdict) → faultAt c room (n + 1 + m) u ≡ v → faultAt c room (n + suc m) u ≡ v
   moved m u v q = subst (λ (i : ℕ). faultAt c room i u ≡ v) (omega arith) q
 
-  longer-way : Stops c room (n + 1) t run ⊎ Completes c room (n + 1) t run → Stops c room n s (then k run) ⊎ Completes c room n s (then k run)
+  longer-way : Stops c room (n + 1) t run ⊎ Completes c room (n + 1) t run
+      → Stops c room n s (then k run) ⊎ Completes c room n s (then k run)
   unfolding commandsOf endOf
   longer-way (inl w) = inl (record {
     cursor = w .cursor;
@@ -144,7 +148,8 @@ module _ (c : Capture) (room n : ℕ) (s t : Cursor) (k : Command) (run : Run) (
     told = w .told;
   })
 
-  longer-earlier : (ks : List Command) (u : Cursor) → Leads c s ks u → length ks < length (commandsOf (then k run)) → faultAt c room (n + length ks) u ≡ Pass
+  longer-earlier : (ks : List Command) (u : Cursor) → Leads c s ks u → length ks < length (commandsOf (then k run))
+      → faultAt c room (n + length ks) u ≡ Pass
   unfolding commandsOf
   longer-earlier [] u stays h = rw (add-zero n) p
   longer-earlier (l ∷ ks) u (onward {t = v} q r) h =
@@ -163,7 +168,8 @@ full-stop : (c : Capture) (room n : ℕ) (s : Cursor) {k : Command} {a : After} 
 full-stop c room n s h r e = rw (index-is c s e) (stopped c room n s _ (full c room n s h r e))
 
 -- every run of the walk, told
-pub explained : (left m : ℕ) (c : Capture) (s : Cursor) (o : Outcome) → stepOf c s ≡ o → (room n : ℕ) → n + left ≡ budget → n + m ≡ room
+pub explained : (left m : ℕ) (c : Capture) (s : Cursor) (o : Outcome) → stepOf c s ≡ o → (room n : ℕ) → n + left ≡ budget
+    → n + m ≡ room
     → Explained c room n s (cut m (trace left c s o))
 unfolding trace cut
 explained zero m c s o e room n b r = stopped c room n s _ (spent c room n s (omega arith))
@@ -176,7 +182,8 @@ explained (suc left) (suc m) c s (Taken k (To t)) e room n b r =
     (explained left m c t (stepOf c t) refl room (n + 1) (omega arith) (omega arith))
 
 -- whoever is led on from where a completed run started is led no further than it
-no-further : (c : Capture) {s t u : Cursor} {last : Command} (before ks : List Command) → Leads c s before t → stepOf c t ≡ Taken last Ends → Leads c s ks u → length ks ≤ length before
+no-further : (c : Capture) {s t u : Cursor} {last : Command} (before ks : List Command) → Leads c s before t
+    → stepOf c t ≡ Taken last Ends → Leads c s ks u → length ks ≤ length before
 no-further c before [] l e r = omega arith
 no-further c [] (k ∷ ks) stays e (onward q r) = absurd (never-ends (sym q ∙ e))
 no-further c {u = u} (b ∷ before) (k ∷ ks) (onward p l) e (onward q r) =
@@ -213,7 +220,8 @@ module _ (base : Base) (c : Capture) (room : ℕ) where
   counted : (m : ℕ) (s : Cursor) (v : Verdict) → faultAt c room (0 + m) s ≡ v → faultAt c room m s ≡ v
   counted m s v e = subst (λ (i : ℕ). faultAt c room i s ≡ v) (zero-add m) e
 
-  stops-told : {f : Fault} → windowFault (lengthsOf c) ≡ Pass → endOf run ≡ Fails f → WalkFault base c room (commandsOf (walk base c room)) f
+  stops-told : {f : Fault} → windowFault (lengthsOf c) ≡ Pass → endOf run ≡ Fails f
+      → WalkFault base c room (commandsOf (walk base c room)) f
   unfolding run
   stops-told {f} w e = ⊎-elim at-fault (λ q. absurd (fails-not-pass (sym e ∙ q .told))) (told .way)
     where
@@ -228,11 +236,13 @@ module _ (base : Base) (c : Capture) (room : ℕ) where
             earlier = λ ks t l h. all-pass (here c t) _ (counted _ t _ (told .earlier ks t l (rw (walk-sound w) at h)));
           }
 
-  pub refusal : {f : Fault} → endOf (walk base c room) ≡ Fails f → ((windowFault (lengthsOf c) ≡ Fails f) × (commandsOf (walk base c room) ≡ [])) ⊎ WalkFault base c room (commandsOf (walk base c room)) f
+  pub refusal : {f : Fault} → endOf (walk base c room) ≡ Fails f
+      → ((windowFault (lengthsOf c) ≡ Fails f) × (commandsOf (walk base c room) ≡ [])) ⊎ WalkFault base c room (commandsOf (walk base c room)) f
   unfolding run commandsOf endOf
   refusal {f} e = by (windowFault (lengthsOf c)) refl
     where
-      by : (v : Verdict) → windowFault (lengthsOf c) ≡ v → ((windowFault (lengthsOf c) ≡ Fails f) × (commandsOf (walk base c room) ≡ [])) ⊎ WalkFault base c room (commandsOf (walk base c room)) f
+      by : (v : Verdict) → windowFault (lengthsOf c) ≡ v
+          → ((windowFault (lengthsOf c) ≡ Fails f) × (commandsOf (walk base c room) ≡ [])) ⊎ WalkFault base c room (commandsOf (walk base c room)) f
       by Pass w = inr (stops-told w (rw (walk-sound w) at e))
       by (Fails g) w = inl (w ∙ rw (walk-unsound w) at e, rw (walk-unsound w))
 

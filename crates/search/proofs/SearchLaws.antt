@@ -84,7 +84,8 @@ table-mask r j h k =
     (at-each (λ r. each (λ j. eqb (getD (getD maskTable r []) j 0) (getD (masksOf r) j 0)) 16) rowCount masks-tested r h) j k)
 
 -- what is looked for at a dword, by its place in its group
-pub wrong-at-spot : (what : Sought) (w : Windows) (r : ℕ) (d : List ℕ) (k j : ℕ) → inGroup (groupSize r) k ≡ j → wrong what w r d k ≡ wrongAt what w r d k j
+pub wrong-at-spot : (what : Sought) (w : Windows) (r : ℕ) (d : List ℕ) (k j : ℕ) → inGroup (groupSize r) k ≡ j
+    → wrong what w r d k ≡ wrongAt what w r d k j
 unfolding wrong
 wrong-at-spot what w r d k j e = ap (wrongAt what w r d k) e
 

@@ -2,7 +2,7 @@
 -- Assumes nothing.
 use Prim.Native.Nat.{ℕ, _+_, _<_}
 use native.Mathlib.Omega.{arith}
-use mathlib.Core.Path.{_≡_, refl, sym, ap, _∙_}
+use mathlib.Core.Path.{_≡_, refl, ap, _∙_}
 use mathlib.Core.Bool.{Bool, true, false}
 use mathlib.Core.List.{List, [], _∷_}
 use lib.ListN.{length}
@@ -11,11 +11,8 @@ use Rattle.rules.specs.declared.Level.{Level}
 use Rattle.rules.specs.declared.Base.{Base}
 use Rattle.rules.specs.declared.Base.the-variants.{Unset, Set}
 use Rattle.rules.specs.declared.Kind.{Kind}
-use Rattle.rules.specs.declared.Kind.the-variants.{Viewport, ColourCalc}
 use Rattle.rules.specs.declared.Pointer.{Pointer}
 use Rattle.rules.specs.declared.Pointer.the-variants.{NoPointer, PointsTo}
-use Rattle.rules.specs.declared.Fault.{Fault}
-use Rattle.rules.specs.declared.Found.{Found}
 use Rattle.rules.specs.declared.Found.the-variants.{At, Nothing}
 use Rattle.rules.specs.declared.Verdict.{Verdict}
 use Rattle.rules.specs.declared.Verdict.the-variants.{Pass, Fails}
@@ -30,7 +27,7 @@ use Rattle.rules.specs.Addresses.{rangeWrong}
 use Rattle.rules.specs.Structures.{Asked, structureNowhere, structureBit, structureValue, structureChecks, readAt, verdictOf}
 use Rattle.rules.specs.Step.{nested}
 use Rattle.rules.proofs.Searching.{first-found}
-use Rattle.rules.proofs.Trying.{stays-failed}
+use Rattle.rules.proofs.Trying.{fails-not-pass, stays-failed, refuse-passes, search-clear}
 use Rattle.rules.proofs.Readings.{reading-says}
 use Rattle.search.specs.declared.Sought.{Sought}
 use Rattle.search.specs.declared.Sought.the-variants.{Bits, Values, Ranges}
@@ -43,7 +40,8 @@ found-below bad n e = omega (arith, first-found bad 0 n e .below)
 
 -- the ways out of the checks of the dwords
 module _ (w : Windows) (r : ℕ) (d : List ℕ) (at : ℕ) (level : Level) where
-  pub bits-fail : {k : ℕ} → firstOf (wrong Bits w r d) (length d) ≡ At k → Fails (fault BitNotAllowed batchWindow (at + k)) ≡ contentOf w r d at level
+  pub bits-fail : {k : ℕ} → firstOf (wrong Bits w r d) (length d) ≡ At k
+      → Fails (fault BitNotAllowed batchWindow (at + k)) ≡ contentOf w r d at level
   unfolding contentOf wrong wrongAt bitWrong allowedOf allowedAt
   bits-fail e = rw e
 
@@ -53,18 +51,25 @@ module _ (w : Windows) (r : ℕ) (d : List ℕ) (at : ℕ) (level : Level) where
     nested-fails n = rw (b, n)
 
     module _ (n : nested r level ≡ false) where
-      pub values-fail : {k : ℕ} → firstOf (wrong Values w r d) (length d) ≡ At k → Fails (fault ValueBroken batchWindow (at + k)) ≡ contentOf w r d at level
+      pub values-fail : {k : ℕ} → firstOf (wrong Values w r d) (length d) ≡ At k
+          → Fails (fault ValueBroken batchWindow (at + k)) ≡ contentOf w r d at level
       unfolding contentOf wrong wrongAt bitWrong allowedOf allowedAt valueWrong
       values-fail e = rw (b, n, e)
 
       module _ (v : firstOf (wrong Values w r d) (length d) ≡ Nothing) where
-        pub ranges-fail : {k : ℕ} → firstOf (wrong Ranges w r d) (length d) ≡ At k → Fails (fault RangeOutside batchWindow (at + k)) ≡ contentOf w r d at level
+        pub ranges-fail : {k : ℕ} → firstOf (wrong Ranges w r d) (length d) ≡ At k
+            → Fails (fault RangeOutside batchWindow (at + k)) ≡ contentOf w r d at level
         unfolding contentOf wrong wrongAt bitWrong allowedOf allowedAt valueWrong rangeWrong accessAt
         ranges-fail e = rw (b, n, v, e)
 
         pub all-clear : firstOf (wrong Ranges w r d) (length d) ≡ Nothing → Pass ≡ contentOf w r d at level
         unfolding contentOf wrong wrongAt bitWrong allowedOf allowedAt valueWrong rangeWrong accessAt
         all-clear e = rw (b, n, v, e)
+
+-- two verdicts in order pass where both do
+pub both-pass : (v later : Verdict) → orElse v later ≡ Pass → (v ≡ Pass) × (later ≡ Pass)
+both-pass Pass later e = (refl, e)
+both-pass (Fails f) later e = absurd (fails-not-pass e)
 
 -- what passes them all
 pub record Clear (w : Windows) (r : ℕ) (d : List ℕ) (level : Level) : Type 0 where
@@ -74,30 +79,25 @@ pub record Clear (w : Windows) (r : ℕ) (d : List ℕ) (level : Level) : Type 0
 pub passes-clear : (w : Windows) (r : ℕ) (d : List ℕ) (at : ℕ) (level : Level) → contentOf w r d at level ≡ Pass → Clear w r d level
 unfolding contentOf wrong wrongAt bitWrong allowedOf allowedAt valueWrong rangeWrong accessAt
 passes-clear w r d at level e =
-    by (firstOf (wrong Bits w r d) (length d)) (nested r level) (firstOf (wrong Values w r d) (length d)) (firstOf (wrong Ranges w r d) (length d)) refl refl refl refl e
+    let bits = both-pass (refuseFound BitNotAllowed batchWindow at (firstOf (wrong Bits w r d) (length d))) _ e in
+    let start = both-pass (refuseIf (nested r level) (fault NestedStart batchWindow at)) _ (bits .1) in
+    let values = both-pass (refuseFound ValueBroken batchWindow at (firstOf (wrong Values w r d) (length d))) _ (start .1) in
+    record {
+      found = each (search-clear _ _ _ _ (bits .0)) (search-clear _ _ _ _ (values .0)) (search-clear _ _ _ _ (values .1));
+      unnested = refuse-passes _ _ (start .0);
+    }
   where
-    unlike : {f : Fault} → Fails f ≡ Pass → ⊥
-    unlike q = let z : _≡_ {A = ℕ} 0 1 = cc in omega arith
+    nowhere : Sought → Type 0
+    nowhere what = firstOf (wrong what w r d) (length d) ≡ Nothing
 
-    by : (b : Found) (n : Bool) (v x : Found) → firstOf (wrong Bits w r d) (length d) ≡ b → nested r level ≡ n → firstOf (wrong Values w r d) (length d) ≡ v
-        → firstOf (wrong Ranges w r d) (length d) ≡ x
-        → orElse (refuseFound BitNotAllowed batchWindow at b)
-        (orElse (refuseIf n (fault NestedStart batchWindow at)) (orElse (refuseFound ValueBroken batchWindow at v) (refuseFound RangeOutside batchWindow at x)))
-        ≡ Pass
-        → Clear w r d level
-    by (At k) n v x eb en ev ex q = absurd (unlike q)
-    by Nothing true v x eb en ev ex q = absurd (unlike q)
-    by Nothing false (At k) x eb en ev ex q = absurd (unlike q)
-    by Nothing false Nothing (At k) eb en ev ex q = absurd (unlike q)
-    by Nothing false Nothing Nothing eb en ev ex q = record { found = λ what. each what; unnested = en }
-      where
-        each : (what : Sought) → firstOf (wrong what w r d) (length d) ≡ Nothing
-        each Bits = eb
-        each Values = ev
-        each Ranges = ex
+    each : nowhere Bits → nowhere Values → nowhere Ranges → (what : Sought) → nowhere what
+    each b v x Bits = b
+    each b v x Values = v
+    each b v x Ranges = x
 
 -- one check, and the next only where it passes
-pub tried-or : {A : Type 0} (check : A → Verdict) (checks : List (A → Verdict)) (a : A) → tried (check ∷ checks) Pass a ≡ orElse (check a) (firstFault checks a)
+pub tried-or : {A : Type 0} (check : A → Verdict) (checks : List (A → Verdict)) (a : A)
+    → tried (check ∷ checks) Pass a ≡ orElse (check a) (firstFault checks a)
 unfolding tried
 tried-or check checks a = by (check a)
   where
@@ -117,7 +117,8 @@ module _ (c : Capture) (place : ℕ) (p : Pointer) (base : Base) where
   unfolding structuralOf
   unpointed e = rw e
 
-  pub unbased : {kind : Kind} {offset : ℕ} → p ≡ PointsTo kind offset → base ≡ Unset → Fails (fault BaseNeverSet batchWindow place) ≡ structuralOf c place p base
+  pub unbased : {kind : Kind} {offset : ℕ} → p ≡ PointsTo kind offset → base ≡ Unset
+      → Fails (fault BaseNeverSet batchWindow place) ≡ structuralOf c place p base
   unfolding structuralOf
   unbased e b = rw (e, b)
 

@@ -1,3 +1,3 @@
 pub mod Contents
-pub mod Looking
+pub mod LookLaws
 pub mod Ways

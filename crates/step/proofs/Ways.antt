@@ -1,6 +1,6 @@
 -- The ways out of one step, over the numbers that the code has at each.
 -- Assumes nothing.
-use Prim.Native.Nat.{ℕ, _+_, _-_, _*_, _≤_, _<_}
+use Prim.Native.Nat.{ℕ, _+_, _-_, _≤_, _<_}
 use native.Mathlib.Nat.{add-sub-cancel-left}
 use native.Mathlib.Omega.{arith}
 use mathlib.Core.Path.{_≡_, refl, sym, ap, _∙_}
@@ -8,9 +8,9 @@ use mathlib.Core.Bool.{Bool, true, false, _||_}
 use mathlib.Core.List.{List, [], _∷_}
 use mathlib.Core.Logic.{⊎-elim}
 use lib.ListN.{length, take, drop, length-take, length-drop}
-use lib.Dec.{eqb, ltb}
+use lib.Dec.{ltb}
 use lib.Seq.{length-take-le}
-use borrow.Author.Tests.{ltb-true, le-leb, lt-leb, lt-ltb, le-ltb}
+use borrow.Author.Tests.{ltb-true, ltb-false, le-leb, lt-leb}
 use Rattle.rules.specs.declared.Windows.{Windows}
 use Rattle.rules.specs.declared.Cursor.{Cursor}
 use Rattle.rules.specs.declared.Pointer.{Pointer}
@@ -18,17 +18,19 @@ use Rattle.rules.specs.declared.Fault.{Fault}
 use Rattle.rules.specs.declared.Outcome.the-variants.{Taken, Refused}
 use Rattle.rules.specs.declared.Verdict.{Verdict}
 use Rattle.rules.specs.declared.Verdict.the-variants.{Pass, Fails}
-use Rattle.rules.specs.declared.Reason.the-variants.{RanOff, UnknownHeader, WrongLength, PastTheWindow}
-use Rattle.rules.specs.Refusals.{batchWindow, fault, tried, firstFault}
+use Rattle.rules.specs.declared.Reason.the-variants.{RanOff, PastTheWindow}
+use Rattle.rules.specs.Refusals.{batchWindow, fault, refuseIf, tried, firstFault}
 use Rattle.rules.specs.Windows.{Capture, windowsOf}
 use Rattle.rules.specs.Commands.{Length, noField, exactly, byBit, groups, rows, theRow, dwordCount, lengthOf, groupSize, rowCount, lengthRight}
 use Rattle.rules.specs.Structures.{structureNowhere, structureBit, structureValue, structureChecks}
-use Rattle.rules.specs.Step.{Here, here, headerAt, rowAt, lengthAt, dwordsAt, pointerOf, ofStructure, ranOff, unknownHeader, wrongLength, pastTheWindow, bitNotAllowed, nestedStart, valueBroken, rangeOutside, baseNeverSet, stepChecks, levelNumber, moveOf, commandAt, stepOf}
+use Rattle.rules.specs.Step.{Here, here, headerAt, rowAt, lengthAt, dwordsAt, pointerOf, ofStructure, levelNumber, moveOf, commandAt, stepOf}
+use Rattle.rules.specs.Step.{ranOff, unknownHeader, wrongLength, pastTheWindow, bitNotAllowed, nestedStart, valueBroken, rangeOutside, baseNeverSet, stepChecks}
 use Rattle.rules.proofs.Searching.{or-cases}
 use Rattle.rules.proofs.Tables.{each, at-each}
 use Rattle.rules.proofs.Stepping.{moveAt, takes, refuses}
 use Rattle.onward.specs.Onward.{moveFrom}
 use Rattle.step.specs.Parts.{captured, Fitted, orElse, contentOf, structuralOf}
+use Rattle.step.specs.Looks.{ownOf}
 use Rattle.step.proofs.Contents.{tried-or}
 
 -- the numbers of the windows are those of the capture
@@ -50,33 +52,45 @@ module _ (c : Capture) (s : Cursor) where
   h : Here
   h = here c s
 
-  first-fails : (check : Here → Verdict) (checks : List (Here → Verdict)) {f : Fault} → check h ≡ Fails f → firstFault (check ∷ checks) h ≡ Fails f
-  first-fails check checks e = tried-or check checks h ∙ ap (λ v. orElse v (firstFault checks h)) e
-
-  first-passes : (check : Here → Verdict) (checks : List (Here → Verdict)) {v : Verdict} → check h ≡ Pass → firstFault checks h ≡ v → firstFault (check ∷ checks) h ≡ v
-  first-passes check checks p e = tried-or check checks h ∙ ap (λ u. orElse u (firstFault checks h)) p ∙ e
-
-  -- 10 to 17, as the code has them
-  abbrev pub content : Verdict
-  content = contentOf (windowsOf c) (rowAt (c .batch) (s .at)) (dwordsAt (c .batch) (s .at)) (s .at) (s .level)
+  -- 7 to 13 and 14 to 17, as the code has them
+  abbrev pub own : Verdict
+  own = ownOf (windowsOf c) (c .batch) (s .at) (s .level)
 
   abbrev pub structural : Verdict
   structural = structuralOf c (s .at + 1) (pointerOf (rowAt (c .batch) (s .at)) (dwordsAt (c .batch) (s .at))) (s .base)
 
-  counted : s .at + lengthAt (c .batch) (s .at) ≤ length (c .batch) → length (dwordsAt (c .batch) (s .at)) ≡ lengthAt (c .batch) (s .at)
+  counted : s .at + lengthAt (c .batch) (s .at) ≤ length (c .batch)
+      → length (dwordsAt (c .batch) (s .at)) ≡ lengthAt (c .batch) (s .at)
   unfolding dwordsAt
   counted l = length-take-le (lengthAt (c .batch) (s .at)) (drop (s .at) (c .batch)) (omega (arith, length-drop (s .at) (c .batch)))
 
-  contents : s .at + lengthAt (c .batch) (s .at) ≤ length (c .batch) → orElse (bitNotAllowed h) (orElse (nestedStart h) (orElse (valueBroken h) (rangeOutside h))) ≡ content
+  -- 10 to 13 are of the command's dwords where 9 passes, and else not asked
+  abbrev dwords : Verdict
+  dwords = orElse (bitNotAllowed h) (orElse (nestedStart h) (orElse (valueBroken h) (rangeOutside h)))
+
+  contents : s .at + lengthAt (c .batch) (s .at) ≤ length (c .batch)
+      → dwords ≡ contentOf (windowsOf c) (rowAt (c .batch) (s .at)) (dwordsAt (c .batch) (s .at)) (s .at) (s .level)
   unfolding h contentOf bitNotAllowed nestedStart valueBroken rangeOutside
   contents l = rw (counted l)
+
+  owns : orElse (unknownHeader h) (orElse (wrongLength h) (orElse (pastTheWindow h) dwords)) ≡ own
+  unfolding h ownOf unknownHeader wrongLength pastTheWindow
+  owns = ap (λ v. orElse (unknownHeader h) (orElse (wrongLength h) v)) (within (ltb (length (c .batch)) (s .at + lengthAt (c .batch) (s .at))) refl)
+    where
+      within : (t : Bool) → ltb (length (c .batch)) (s .at + lengthAt (c .batch) (s .at)) ≡ t
+          → orElse (refuseIf t (fault PastTheWindow batchWindow (s .at))) dwords
+          ≡ orElse (refuseIf t (fault PastTheWindow batchWindow (s .at)))
+          (contentOf (windowsOf c) (rowAt (c .batch) (s .at)) (dwordsAt (c .batch) (s .at)) (s .at) (s .level))
+      within true e = refl
+      within false e = contents (ltb-false _ _ e)
 
   structurals : orElse (baseNeverSet h) (orElse (ofStructure structureNowhere h) (orElse (ofStructure structureBit h) (ofStructure structureValue h))) ≡ structural
   unfolding h structuralOf baseNeverSet
   structurals = refl
 
   -- four checks, tried in order
-  four : (k l m n : Here → Verdict) (rest : List (Here → Verdict)) → firstFault (k ∷ l ∷ m ∷ n ∷ rest) h ≡ orElse (k h) (orElse (l h) (orElse (m h) (orElse (n h) (firstFault rest h))))
+  four : (k l m n : Here → Verdict) (rest : List (Here → Verdict))
+      → firstFault (k ∷ l ∷ m ∷ n ∷ rest) h ≡ orElse (k h) (orElse (l h) (orElse (m h) (orElse (n h) (firstFault rest h))))
   four k l m n rest =
       tried-or k (l ∷ m ∷ n ∷ rest) h
       ∙ ap (orElse (k h)) (tried-or l (m ∷ n ∷ rest) h ∙ ap (orElse (l h)) (tried-or m (n ∷ rest) h ∙ ap (orElse (m h)) (tried-or n rest h)))
@@ -89,17 +103,18 @@ module _ (c : Capture) (s : Cursor) where
   unfolding tried
   four-last k l m n = four k l m n [] ∙ ap (λ v. orElse (k h) (orElse (l h) (orElse (m h) v))) (last-passes (n h))
 
-  inner : s .at + lengthAt (c .batch) (s .at) ≤ length (c .batch)
-      → firstFault (bitNotAllowed ∷ nestedStart ∷ valueBroken ∷ rangeOutside ∷ baseNeverSet ∷ ofStructure structureNowhere ∷ ofStructure structureBit ∷ ofStructure structureValue ∷ []) h
-      ≡ orElse content structural
-  inner l =
-      let own = orElse (bitNotAllowed h) (orElse (nestedStart h) (orElse (valueBroken h) (rangeOutside h))) in
-      four bitNotAllowed nestedStart valueBroken rangeOutside (baseNeverSet ∷ ofStructure structureNowhere ∷ ofStructure structureBit ∷ ofStructure structureValue ∷ [])
-      ∙ joined (bitNotAllowed h) (nestedStart h) (valueBroken h) (rangeOutside h) (firstFault (baseNeverSet ∷ ofStructure structureNowhere ∷ ofStructure structureBit ∷ ofStructure structureValue ∷ []) h)
-      ∙ ap (orElse own) (four-last baseNeverSet (ofStructure structureNowhere) (ofStructure structureBit) (ofStructure structureValue) ∙ structurals)
-      ∙ ap (λ v. orElse v structural) (contents l)
+  -- the three parts of a step: 6, 7 to 13, and 14 to 17
+  framed : firstFault stepChecks (here c s) ≡ orElse (ranOff h) (orElse own structural)
+  unfolding stepChecks structureChecks h
+  framed =
+      let structure = baseNeverSet ∷ ofStructure structureNowhere ∷ ofStructure structureBit ∷ ofStructure structureValue ∷ [] in
+      four ranOff unknownHeader wrongLength pastTheWindow (bitNotAllowed ∷ nestedStart ∷ valueBroken ∷ rangeOutside ∷ structure)
+      ∙ ap (λ v. orElse (ranOff h) (orElse (unknownHeader h) (orElse (wrongLength h) (orElse (pastTheWindow h) v))))
+      (four bitNotAllowed nestedStart valueBroken rangeOutside structure
+      ∙ joined (bitNotAllowed h) (nestedStart h) (valueBroken h) (rangeOutside h) (firstFault structure h)
+      ∙ ap (orElse dwords) (four-last baseNeverSet (ofStructure structureNowhere) (ofStructure structureBit) (ofStructure structureValue) ∙ structurals))
+      ∙ ap (orElse (ranOff h)) (joined (unknownHeader h) (wrongLength h) (pastTheWindow h) dwords structural ∙ ap (λ v. orElse v structural) owns)
 
-  -- 6 to 9
   off : length (c .batch) ≤ s .at → ranOff h ≡ Fails (fault RanOff batchWindow (s .at))
   unfolding h ranOff
   off l = rw (le-leb _ _ l)
@@ -108,69 +123,22 @@ module _ (c : Capture) (s : Cursor) where
   unfolding h ranOff
   on l = rw (lt-leb _ _ l)
 
-  unknown : rowCount ≤ rowAt (c .batch) (s .at) → unknownHeader h ≡ Fails (fault UnknownHeader batchWindow (s .at))
-  unfolding h unknownHeader
-  unknown l = rw (le-leb _ _ l)
-
-  known : rowAt (c .batch) (s .at) < rowCount → unknownHeader h ≡ Pass
-  unfolding h unknownHeader
-  known l = rw (lt-leb _ _ l)
-
-  wrong : lengthRight (rowAt (c .batch) (s .at)) (headerAt (c .batch) (s .at)) ≡ false → wrongLength h ≡ Fails (fault WrongLength batchWindow (s .at))
-  unfolding h wrongLength
-  wrong e = rw e
-
-  right : lengthRight (rowAt (c .batch) (s .at)) (headerAt (c .batch) (s .at)) ≡ true → wrongLength h ≡ Pass
-  unfolding h wrongLength
-  right e = rw e
-
-  past : length (c .batch) < s .at + lengthAt (c .batch) (s .at) → pastTheWindow h ≡ Fails (fault PastTheWindow batchWindow (s .at))
-  unfolding h pastTheWindow
-  past l = rw (lt-ltb _ _ l)
-
-  whole : s .at + lengthAt (c .batch) (s .at) ≤ length (c .batch) → pastTheWindow h ≡ Pass
-  unfolding h pastTheWindow
-  whole l = rw (le-ltb _ _ l)
-
   -- the ways out, in their order
   pub ran-off : length (c .batch) ≤ s .at → Refused (fault RanOff batchWindow (s .at)) ≡ stepOf c s
-  unfolding stepChecks structureChecks h
-  ran-off l = sym (refuses c s (first-fails ranOff _ (off l)))
+  ran-off l = sym (refuses c s (framed ∙ ap (λ v. orElse v (orElse own structural)) (off l)))
 
   module _ (a : s .at < length (c .batch)) where
-    pub unknown-header : rowCount ≤ rowAt (c .batch) (s .at) → Refused (fault UnknownHeader batchWindow (s .at)) ≡ stepOf c s
-    unfolding stepChecks structureChecks h
-    unknown-header l = sym (refuses c s (first-passes ranOff _ (on a) (first-fails unknownHeader _ (unknown l))))
+    onward : {v : Verdict} → own ≡ v → firstFault stepChecks (here c s) ≡ orElse v structural
+    onward e = framed ∙ ap (λ u. orElse u (orElse own structural)) (on a) ∙ ap (λ u. orElse u structural) e
 
-    module _ (k : rowAt (c .batch) (s .at) < rowCount) where
-      pub wrong-length : lengthRight (rowAt (c .batch) (s .at)) (headerAt (c .batch) (s .at)) ≡ false → Refused (fault WrongLength batchWindow (s .at)) ≡ stepOf c s
-      unfolding stepChecks structureChecks h
-      wrong-length e = sym (refuses c s (first-passes ranOff _ (on a) (first-passes unknownHeader _ (known k) (first-fails wrongLength _ (wrong e)))))
+    pub own-fails : {f : Fault} → own ≡ Fails f → Refused f ≡ stepOf c s
+    own-fails e = sym (refuses c s (onward e))
 
-      module _ (r : lengthRight (rowAt (c .batch) (s .at)) (headerAt (c .batch) (s .at)) ≡ true) where
-        pub past-the-window : length (c .batch) < s .at + lengthAt (c .batch) (s .at) → Refused (fault PastTheWindow batchWindow (s .at)) ≡ stepOf c s
-        unfolding stepChecks structureChecks h
-        past-the-window l =
-            sym
-            (refuses c s
-            (first-passes ranOff _ (on a)
-            (first-passes unknownHeader _ (known k) (first-passes wrongLength _ (right r) (first-fails pastTheWindow _ (past l))))))
+    pub structure-fails : {f : Fault} → own ≡ Pass → structural ≡ Fails f → Refused f ≡ stepOf c s
+    structure-fails p e = sym (refuses c s (onward p ∙ e))
 
-        module _ (w : s .at + lengthAt (c .batch) (s .at) ≤ length (c .batch)) where
-          framed : firstFault stepChecks (here c s) ≡ orElse content structural
-          unfolding stepChecks structureChecks h
-          framed =
-              first-passes ranOff _ (on a)
-              (first-passes unknownHeader _ (known k) (first-passes wrongLength _ (right r) (first-passes pastTheWindow _ (whole w) (inner w))))
-
-          pub content-fails : {f : Fault} → content ≡ Fails f → Refused f ≡ stepOf c s
-          content-fails e = sym (refuses c s (framed ∙ ap (λ v. orElse v structural) e))
-
-          pub structure-fails : {f : Fault} → content ≡ Pass → structural ≡ Fails f → Refused f ≡ stepOf c s
-          structure-fails p e = sym (refuses c s (framed ∙ ap (λ v. orElse v structural) p ∙ e))
-
-          pub all-pass : content ≡ Pass → structural ≡ Pass → Taken (commandAt (c .batch) s) (moveAt c s) ≡ stepOf c s
-          all-pass p e = sym (takes c s (framed ∙ ap (λ v. orElse v structural) p ∙ e))
+    pub all-pass : own ≡ Pass → structural ≡ Pass → Taken (commandAt (c .batch) s) (moveAt c s) ≡ stepOf c s
+    all-pass p e = sym (takes c s (onward p ∙ e))
 
 -- the move, by the batch window's address alone
 pub moved : (c : Capture) (s : Cursor) (r : ℕ) (d : List ℕ) (next : ℕ) → moveFrom (c .batchAt) s r d next ≡ moveOf c s r d next
@@ -178,21 +146,26 @@ unfolding moveFrom moveOf windowsOf
 moved c s r d next = refl
 
 -- the code's numbers are those of the definitions: the row, the length, and the command's own dwords
-pub length-is : (batch : List ℕ) (at : ℕ) {row len : ℕ} → row ≡ rowAt batch at → len ≡ lengthOf row (headerAt batch at) → len ≡ lengthAt batch at
+pub length-is : (batch : List ℕ) (at : ℕ) {row len : ℕ} → row ≡ rowAt batch at → len ≡ lengthOf row (headerAt batch at)
+    → len ≡ lengthAt batch at
 length-is batch at er el = el ∙ ap (λ (r : ℕ). lengthOf r (headerAt batch at)) er
 
-pub right-is : (batch : List ℕ) (at : ℕ) {row : ℕ} {t u : Bool} → row ≡ rowAt batch at → t ≡ lengthRight row (headerAt batch at) → t ≡ u → lengthRight (rowAt batch at) (headerAt batch at) ≡ u
+pub right-is : (batch : List ℕ) (at : ℕ) {row : ℕ} {t u : Bool} → row ≡ rowAt batch at → t ≡ lengthRight row (headerAt batch at)
+    → t ≡ u → lengthRight (rowAt batch at) (headerAt batch at) ≡ u
 right-is batch at er et e = ap (λ (r : ℕ). lengthRight r (headerAt batch at)) (sym er) ∙ sym et ∙ e
 
-pub dwords-are : (batch : List ℕ) (at : ℕ) {len : ℕ} → len ≡ lengthAt batch at → take (at + len - at) (drop at batch) ≡ dwordsAt batch at
+pub dwords-are : (batch : List ℕ) (at : ℕ) {len : ℕ} → len ≡ lengthAt batch at
+    → take (at + len - at) (drop at batch) ≡ dwordsAt batch at
 unfolding dwordsAt
 dwords-are batch at e = rw (add-sub-cancel-left, e)
 
 module _ {w : Windows} {batch state : List ℕ} (s : Cursor) {row len : ℕ} (f : Fitted w batch state) (er : row ≡ rowAt batch (s .at)) (el : len ≡ lengthAt batch (s .at)) where
-  pub structural-is : {p : Pointer} → p ≡ pointerOf row (take (s .at + len - s .at) (drop (s .at) batch)) → structuralOf (captured w batch state) (s .at + 1) p (s .base) ≡ structural (captured w batch state) s
+  pub structural-is : {p : Pointer} → p ≡ pointerOf row (take (s .at + len - s .at) (drop (s .at) batch))
+      → structuralOf (captured w batch state) (s .at + 1) p (s .base) ≡ structural (captured w batch state) s
   structural-is e = rw (e, er, dwords-are batch (s .at) el)
 
-  pub taken-is : Taken (record { index = s .at; level = levelNumber (s .level); row = row; length = len }) (moveFrom (w .batch .at) s row (take (s .at + len - s .at) (drop (s .at) batch)) (s .at + len))
+  pub taken-is : Taken (record { index = s .at; level = levelNumber (s .level); row = row; length = len })
+      (moveFrom (w .batch .at) s row (take (s .at + len - s .at) (drop (s .at) batch)) (s .at + len))
       ≡ Taken (commandAt batch s) (moveAt (captured w batch state) s)
   unfolding commandAt
   taken-is = rw (dwords-are batch (s .at) el, er, el, moved (captured w batch state))
@@ -223,11 +196,13 @@ groupless r header h e =
     (or-cases (ltb 0 (groupSize r)) _ (at-each (λ k. ltb 0 (groupSize k) || isOne (theRow k .total)) rowCount groupless-tested r h)))
 
 -- so that the search's groups have dwords
-pub short : (batch : List ℕ) (at : ℕ) {row len : ℕ} → row < rowCount → len ≡ lengthOf row (headerAt batch at) → groupSize row ≡ 0 → length (take (at + len - at) (drop at batch)) ≤ 1
+pub short : (batch : List ℕ) (at : ℕ) {row len : ℕ} → row < rowCount → len ≡ lengthOf row (headerAt batch at) → groupSize row ≡ 0
+    → length (take (at + len - at) (drop at batch)) ≤ 1
 short batch at {row} {len} h el e =
     let n = groupless row (headerAt batch at) h e in
     omega (arith, length-take (at + len - at) (drop at batch))
 
 -- and the command's end is no more than the batch's
-pub part-below : (batch : List ℕ) (at len : ℕ) → at + len ≤ length batch → at + length (take (at + len - at) (drop at batch)) ≤ length batch
+pub part-below : (batch : List ℕ) (at len : ℕ) → at + len ≤ length batch
+    → at + length (take (at + len - at) (drop at batch)) ≤ length batch
 part-below batch at len h = omega (arith, length-take (at + len - at) (drop at batch))

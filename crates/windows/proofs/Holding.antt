@@ -32,7 +32,8 @@ module _ (w : Window) (address n : ℕ) where
   whole-dword e = eqb-true _ _ (and-right (holds w address (4 * n)) _ e)
 
 -- the dwords lie within a window of `count` dwords
-pub dwords-inside : (at count address n : ℕ) → holdsDwords (lent at count) address n ≡ true → dwordOf (lent at count) address + n ≤ count
+pub dwords-inside : (at count address n : ℕ) → holdsDwords (lent at count) address n ≡ true
+    → dwordOf (lent at count) address + n ≤ count
 dwords-inside at count address n e =
     let i = bytes-inside (lent at count) address n e in
     let m = whole-dword (lent at count) address n e in

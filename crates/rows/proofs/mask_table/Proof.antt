@@ -7,9 +7,6 @@ use Rattle.rows.specs.Masks.{maskRows, maskTable}
 use Rattle.rows.proofs.mask_table.Statement.{statement}
 use Rattle.rows.proofs.mask_table.Tie as tie
 
-returns : tie.Need-returns
-unfolding rows theRow masksOf maskRows maskTable
-returns c = refl
-
 pub mask-table-spec : {M : Type 1} → statement M
-mask-table-spec = tie.close (tie.spec returns)
+unfolding rows theRow masksOf maskRows maskTable
+mask-table-spec = tie.close (tie.spec (λ c. refl))

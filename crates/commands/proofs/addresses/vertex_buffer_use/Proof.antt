@@ -6,35 +6,15 @@ use borrow.Author.Needs.{needs}
 use Rattle.commands.proofs.addresses.vertex_buffer_use.Statement.{statement}
 use Rattle.commands.proofs.addresses.vertex_buffer_use.Tie as tie
 
-returns : tie.Need-returns
-returns c = simp (ne-eqb _ _ (c .if1 .taken))
-
-before-requires : tie.Need-before-requires
-before-requires c κs = search needs
-
-dword-requires : tie.Need-dword-requires
-dword-requires c κs = search needs
-
-add-dword : tie.Need-add-dword
-add-dword c = search needs
-
-dword-requires-2 : tie.Need-dword-requires-2
-dword-requires-2 c κs = search needs
-
-vertex-buffer-range-requires : tie.Need-vertex-buffer-range-requires
-vertex-buffer-range-requires c κs = search needs
-
-returns-2 : tie.Need-returns-2
-returns-2 c = c .vertex-buffer-range .ensures ∙ simp (eq-eqb _ _ (c .before .before .before .before .if1 .left), ← c .before .dword2 .ensures, ← c .before .before .dword .ensures, ← c .before .before .before .before2 .ensures)
+at-range : tie.Need-returns-2
+at-range c =
+    let low = c .before .before in
+    let behind = low .before in
+    c .vertex-buffer-range .ensures
+    ∙ simp (eq-eqb _ _ (behind .before .if1 .left), ← c .before .dword2 .ensures, ← low .dword .ensures, ← behind .before2 .ensures)
 
 pub vertex-buffer-use-spec : {M : Type 1} → statement M
 vertex-buffer-use-spec =
     tie.close
-    (tie.spec
-    returns
-    before-requires
-    dword-requires
-    add-dword
-    dword-requires-2
-    vertex-buffer-range-requires
-    returns-2)
+    (tie.spec (λ c. simp (ne-eqb _ _ (c .if1 .taken))) (λ c κs. search needs) (λ c κs. search needs) (λ c. search needs) (λ c κs. search needs)
+    (λ c κs. search needs) at-range)

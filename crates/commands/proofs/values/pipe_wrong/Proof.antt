@@ -5,20 +5,11 @@ use borrow.Author.Needs.{needs}
 use Rattle.commands.proofs.values.pipe_wrong.Statement.{statement}
 use Rattle.commands.proofs.values.pipe_wrong.Tie as tie
 
-dword-requires : tie.Need-dword-requires
-dword-requires c κs = search needs
-
-returns : tie.Need-returns
-returns c = simp (lt-ltb _ _ (c .if2 .taken), lt-leb _ _ (c .if2 .taken), eq-eqb _ _ (c .before .if1 .taken), ← c .before .before .dword .ensures)
-
-returns-2 : tie.Need-returns-2
-returns-2 c = simp (le-leb _ _ (c .if2 .left), le-ltb _ _ (c .if2 .left), eq-eqb _ _ (c .before .if1 .taken), ← c .before .before .dword .ensures)
-
-returns-3 : tie.Need-returns-3
-returns-3 c = simp (ne-eqb _ _ (c .if3 .taken), ne-eqb _ _ (c .before .if1 .left), ← c .before .before .dword .ensures)
-
-returns-4 : tie.Need-returns-4
-returns-4 c = simp (eq-eqb _ _ (c .if3 .left), ne-eqb _ _ (c .before .if1 .left), ← c .before .before .dword .ensures)
-
 pub pipe-wrong-spec : {M : Type 1} → statement M
-pipe-wrong-spec = tie.close (tie.spec dword-requires returns returns-2 returns-3 returns-4)
+pipe-wrong-spec =
+    tie.close
+    (tie.spec (λ c κs. search needs)
+    (λ c. simp (lt-ltb _ _ (c .if2 .taken), lt-leb _ _ (c .if2 .taken), eq-eqb _ _ (c .before .if1 .taken), ← c .before .before .dword .ensures))
+    (λ c. simp (le-leb _ _ (c .if2 .left), le-ltb _ _ (c .if2 .left), eq-eqb _ _ (c .before .if1 .taken), ← c .before .before .dword .ensures))
+    (λ c. simp (ne-eqb _ _ (c .if3 .taken), ne-eqb _ _ (c .before .if1 .left), ← c .before .before .dword .ensures))
+    (λ c. simp (eq-eqb _ _ (c .if3 .left), ne-eqb _ _ (c .before .if1 .left), ← c .before .before .dword .ensures)))

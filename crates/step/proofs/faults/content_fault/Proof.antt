@@ -1,101 +1,104 @@
 -- `step::faults::content_fault` meets its contract: one law for each way out, in the order of the checks.
 -- Assumes nothing.
-use mathlib.Core.Path.{sym, _∙_}
-use Rattle.step.proofs.Contents.{found-below, bits-fail, nested-fails, values-fail, ranges-fail, all-clear}
-use borrow.Author.Needs.{needs}
+use mathlib.Core.Path.{_≡_, sym, _∙_}
+use mathlib.Core.Bool.{false}
 use native.Mathlib.Omega.{arith}
+use lib.ListN.{length}
+use borrow.Author.Needs.{needs}
+use Rattle.rules.specs.declared.Found.{Found}
+use Rattle.rules.specs.declared.Found.the-variants.{At, Nothing}
+use Rattle.rules.specs.Words.{firstOf}
+use Rattle.rules.specs.Step.{nested}
+use Rattle.search.specs.declared.Sought.{Sought}
+use Rattle.search.specs.declared.Sought.the-variants.{Bits, Values, Ranges}
+use Rattle.search.specs.Search.{wrong}
+use Rattle.step.proofs.Contents.{found-below, bits-fail, nested-fails, values-fail, ranges-fail, all-clear}
 use Rattle.step.proofs.faults.content_fault.Statement.{statement}
 use Rattle.step.proofs.faults.content_fault.Tie as tie
 
-first-wrong-requires : tie.Need-first-wrong-requires
-first-wrong-requires c κs = search needs
+-- what a search of the command's dwords finds
+abbrev found : Sought → tie.Start → Found
+found what s = firstOf (wrong what (s .args .w) (s .args .row) (s .args .command .now)) (length (s .args .command .now))
 
-enum-known-k : tie.Need-enum-known-k
-enum-known-k c = search needs
+abbrev start : tie.After-first-wrong → tie.Start
+start c = c .before .before
 
-add-fails : tie.Need-add-fails
-add-fails c = omega (arith, found-below _ _ (sym (c .before .before .before .first-wrong .ensures) ∙ c .before .k .given .1), c .before .before .before .before .before .pre .2)
+abbrev bits : tie.After-first-wrong2 → tie.After-enum-told
+bits c = c .before .before .before
 
-fails-requires : tie.Need-fails-requires
-fails-requires c κs = search needs
+abbrev values : tie.After-first-wrong3 → tie.After-enum-told2
+values c = c .before
 
-returns : tie.Need-returns
-returns c = c .fails .ensures ∙ bits-fail _ _ _ _ _ (sym (c .before .before .before .before .first-wrong .ensures) ∙ c .before .before .k .given .1)
+abbrev at-bits : tie.After-enum-told → tie.Start
+at-bits c = start (c .before .before)
 
-enum-told : tie.Need-enum-told
-enum-told c = search needs
+abbrev at-values : tie.After-first-wrong2 → tie.Start
+at-values c = at-bits (bits c)
 
-is-nested-requires : tie.Need-is-nested-requires
-is-nested-requires c κs = search needs
+abbrev at-ranges : tie.After-first-wrong3 → tie.Start
+at-ranges c = at-values (values c .before .before)
 
-fails-requires-2 : tie.Need-fails-requires-2
-fails-requires-2 c κs = search needs
+-- where the checks go on
+no-bits : (c : tie.After-enum-told) → found Bits (at-bits c) ≡ Nothing
+no-bits c = sym (c .before .before .first-wrong .ensures) ∙ c .enum-told .given .1
 
-returns-2 : tie.Need-returns-2
-returns-2 c = c .fails2 .ensures ∙ nested-fails _ _ _ _ _ (sym (c .before .before .before .before .before .first-wrong .ensures) ∙ c .before .before .before .enum-told .given .1) (sym (c .before .before .is-nested .ensures) ∙ c .before .if1 .taken)
+unnested : (c : tie.After-first-wrong2) → nested (at-values c .args .row) (at-values c .args .level) ≡ false
+unnested c = sym (c .before .before .is-nested .ensures) ∙ c .before .if1 .left
 
-first-wrong-requires-2 : tie.Need-first-wrong-requires-2
-first-wrong-requires-2 c κs = search needs
+no-values : (c : tie.After-enum-told2) → found Values (at-values (c .before .before)) ≡ Nothing
+no-values c = sym (c .before .before .first-wrong2 .ensures) ∙ c .enum-told2 .given .1
 
-enum-known-k-2 : tie.Need-enum-known-k-2
-enum-known-k-2 c = search needs
+-- and where they end
+bit-found : (c : tie.After-k) → found Bits (start (c .before .before)) ≡ At (c .k .given .0 .0)
+bit-found c = sym (c .before .before .first-wrong .ensures) ∙ c .k .given .1
 
-add-fails-2 : tie.Need-add-fails-2
-add-fails-2 c = omega (arith, found-below _ _ (sym (c .before .before .before .first-wrong2 .ensures) ∙ c .before .k2 .given .1), c .before .before .before .before .before .before .before .before .before .before .pre .2)
+value-found : (c : tie.After-k2) → found Values (at-values (c .before .before)) ≡ At (c .k2 .given .0 .0)
+value-found c = sym (c .before .before .first-wrong2 .ensures) ∙ c .k2 .given .1
 
-fails-requires-3 : tie.Need-fails-requires-3
-fails-requires-3 c κs = search needs
+range-found : (c : tie.After-k3) → found Ranges (at-ranges (c .before .before)) ≡ At (c .k3 .given .0 .0)
+range-found c = sym (c .before .before .first-wrong3 .ensures) ∙ c .k3 .given .1
 
-returns-3 : tie.Need-returns-3
-returns-3 c = c .fails3 .ensures ∙ values-fail _ _ _ _ _ (sym (c .before .before .before .before .before .before .before .before .before .first-wrong .ensures) ∙ c .before .before .before .before .before .before .before .enum-told .given .1) (sym (c .before .before .before .before .before .before .is-nested .ensures) ∙ c .before .before .before .before .before .if1 .left) (sym (c .before .before .before .before .first-wrong2 .ensures) ∙ c .before .before .k2 .given .1)
+bit-place : tie.Need-add-fails
+bit-place c = omega (arith, found-below _ _ (bit-found (c .before)), start (c .before .before .before) .pre .2)
 
-enum-told-2 : tie.Need-enum-told-2
-enum-told-2 c = search needs
+value-place : tie.Need-add-fails-2
+value-place c = omega (arith, found-below _ _ (value-found (c .before)), at-values (c .before .before .before) .pre .2)
 
-first-wrong-requires-3 : tie.Need-first-wrong-requires-3
-first-wrong-requires-3 c κs = search needs
+range-place : tie.Need-add-fails-3
+range-place c = omega (arith, found-below _ _ (range-found (c .before)), at-ranges (c .before .before .before) .pre .2)
 
-enum-known-k-3 : tie.Need-enum-known-k-3
-enum-known-k-3 c = search needs
+bit-not-allowed : tie.Need-returns
+bit-not-allowed c = c .fails .ensures ∙ bits-fail _ _ _ _ _ (bit-found (c .before .before))
 
-add-fails-3 : tie.Need-add-fails-3
-add-fails-3 c = omega (arith, found-below _ _ (sym (c .before .before .before .first-wrong3 .ensures) ∙ c .before .k3 .given .1), c .before .before .before .before .before .before .before .before .before .before .before .before .before .pre .2)
+nested-start : tie.Need-returns-2
+nested-start c =
+    let asked = c .before .before in
+    c .fails2 .ensures ∙ nested-fails _ _ _ _ _ (no-bits (asked .before)) (sym (asked .is-nested .ensures) ∙ c .before .if1 .taken)
 
-fails-requires-4 : tie.Need-fails-requires-4
-fails-requires-4 c κs = search needs
+value-broken : tie.Need-returns-3
+value-broken c =
+    let at = c .before .before in
+    let searched = at .before .before in
+    c .fails3 .ensures ∙ values-fail _ _ _ _ _ (no-bits (bits searched)) (unnested searched) (value-found at)
 
-returns-4 : tie.Need-returns-4
-returns-4 c = c .fails4 .ensures ∙ ranges-fail _ _ _ _ _ (sym (c .before .before .before .before .before .before .before .before .before .before .before .before .first-wrong .ensures) ∙ c .before .before .before .before .before .before .before .before .before .before .enum-told .given .1) (sym (c .before .before .before .before .before .before .before .before .before .is-nested .ensures) ∙ c .before .before .before .before .before .before .before .before .if1 .left) (sym (c .before .before .before .before .before .before .before .first-wrong2 .ensures) ∙ c .before .before .before .before .before .enum-told2 .given .1) (sym (c .before .before .before .before .first-wrong3 .ensures) ∙ c .before .before .k3 .given .1)
+range-outside : tie.Need-returns-4
+range-outside c =
+    let at = c .before .before in
+    let clear = values (at .before .before) in
+    let searched = clear .before .before in
+    c .fails4 .ensures ∙ ranges-fail _ _ _ _ _ (no-bits (bits searched)) (unnested searched) (no-values clear) (range-found at)
 
-enum-told-3 : tie.Need-enum-told-3
-enum-told-3 c = search needs
-
-returns-5 : tie.Need-returns-5
-returns-5 c = all-clear _ _ _ _ _ (sym (c .before .before .before .before .before .before .before .before .before .before .first-wrong .ensures) ∙ c .before .before .before .before .before .before .before .before .enum-told .given .1) (sym (c .before .before .before .before .before .before .before .is-nested .ensures) ∙ c .before .before .before .before .before .before .if1 .left) (sym (c .before .before .before .before .before .first-wrong2 .ensures) ∙ c .before .before .before .enum-told2 .given .1) (sym (c .before .before .first-wrong3 .ensures) ∙ c .enum-told3 .given .1)
+passes : tie.Need-returns-5
+passes c =
+    let last = c .before .before in
+    let searched = values last .before .before in
+    all-clear _ _ _ _ _ (no-bits (bits searched)) (unnested searched) (no-values (values last)) (sym (last .first-wrong3 .ensures) ∙ c .enum-told3 .given .1)
 
 pub content-fault-spec : {M : Type 1} → statement M
 content-fault-spec =
     tie.close
-    (tie.spec
-    first-wrong-requires
-    enum-known-k
-    add-fails
-    fails-requires
-    returns
-    enum-told
-    is-nested-requires
-    fails-requires-2
-    returns-2
-    first-wrong-requires-2
-    enum-known-k-2
-    add-fails-2
-    fails-requires-3
-    returns-3
-    enum-told-2
-    first-wrong-requires-3
-    enum-known-k-3
-    add-fails-3
-    fails-requires-4
-    returns-4
-    enum-told-3
-    returns-5)
+    (tie.spec (λ c κs. search needs) (λ c. search needs) bit-place (λ c κs. search needs) bit-not-allowed
+    (λ c. search needs) (λ c κs. search needs) (λ c κs. search needs) nested-start
+    (λ c κs. search needs) (λ c. search needs) value-place (λ c κs. search needs) value-broken
+    (λ c. search needs) (λ c κs. search needs) (λ c. search needs) range-place (λ c κs. search needs) range-outside
+    (λ c. search needs) passes)

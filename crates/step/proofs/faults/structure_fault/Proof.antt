@@ -1,62 +1,34 @@
 -- `step::faults::structure_fault` meets its contract: no pointer, no base, or what the read says.
 -- Assumes nothing.
 use mathlib.Core.Path.{_∙_, ap}
+use native.Mathlib.Omega.{arith}
+use borrow.Author.Needs.{needs}
 use Rattle.rules.specs.Structures.{verdictOf}
 use Rattle.step.proofs.Contents.{unpointed, unbased, read}
-use borrow.Author.Needs.{needs}
-use native.Mathlib.Omega.{arith}
 use Rattle.step.proofs.faults.structure_fault.Statement.{statement}
 use Rattle.step.proofs.faults.structure_fault.Tie as tie
 
-enum-told : tie.Need-enum-told
-enum-told c = search needs
+abbrev pointed : tie.After-base → tie.After-pointer
+pointed c = c .before .before .before
 
-enum-known-pointer : tie.Need-enum-known-pointer
-enum-known-pointer c = search needs
-
-enum-told-2 : tie.Need-enum-told-2
-enum-told-2 c = search needs
-
-fails-requires : tie.Need-fails-requires
-fails-requires c κs = search needs
-
-enum-known-base : tie.Need-enum-known-base
-enum-known-base c = search needs
-
-cast-address : tie.Need-cast-address
-cast-address c = search needs
+abbrev start : tie.After-pointer → tie.Start
+start c = c .before .before .before .before
 
 add-address : tie.Need-add-address
-add-address c = omega (arith, c .before .before .before .before .before .before .before .before .pre .small _ (c .before .base .given .1), c .known-told2 .given)
+add-address c = omega (arith, start (pointed (c .before)) .pre .small _ (c .before .base .given .1), c .known-told2 .given)
 
-read-requires : tie.Need-read-requires
-read-requires c κs = search needs
+no-base : tie.Need-returns-2
+no-base c =
+    let unset = c .before in
+    c .fails .ensures ∙ unbased _ _ _ _ (unset .before .before .before .pointer .given .1) (unset .enum-told2 .given .1)
 
-verdict-of-requires : tie.Need-verdict-of-requires
-verdict-of-requires c κs = search needs
-
-returns : tie.Need-returns
-returns c = unpointed _ _ _ _ (c .enum-told .given .1)
-
-returns-2 : tie.Need-returns-2
-returns-2 c = c .fails .ensures ∙ unbased _ _ _ _ (c .before .before .before .before .pointer .given .1) (c .before .enum-told2 .given .1)
-
-returns-3 : tie.Need-returns-3
-returns-3 c = c .verdict-of .ensures ∙ ap verdictOf (c .before .read .ensures .answers) ∙ read _ _ _ _ (c .before .before .before .before .before .before .pointer .given .1) (c .before .before .before .base .given .1)
+is-read : tie.Need-returns-3
+is-read c =
+    let set = c .before .before .before in
+    c .verdict-of .ensures ∙ ap verdictOf (c .before .read .ensures .answers) ∙ read _ _ _ _ (pointed set .pointer .given .1) (set .base .given .1)
 
 pub structure-fault-spec : {M : Type 1} → statement M
 structure-fault-spec =
     tie.close
-    (tie.spec
-    enum-told
-    enum-known-pointer
-    enum-told-2
-    fails-requires
-    enum-known-base
-    cast-address
-    add-address
-    read-requires
-    verdict-of-requires
-    returns
-    returns-2
-    returns-3)
+    (tie.spec (λ c. search needs) (λ c. search needs) (λ c. search needs) (λ c κs. search needs) (λ c. search needs) (λ c. search needs)
+    add-address (λ c κs. search needs) (λ c κs. search needs) (λ c. unpointed _ _ _ _ (c .enum-told .given .1)) no-base is-read)

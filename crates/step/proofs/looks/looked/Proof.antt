@@ -1,57 +1,42 @@
 -- `step::looks::looked` meets its contract: what passes the quick look, and else the search.
 -- Assumes nothing.
 use borrow.Author.Needs.{needs}
-use mathlib.Core.Path.{sym, ap, _∙_}
+use mathlib.Core.Path.{_≡_, sym, ap, _∙_}
+use lib.ListN.{drop}
 use Rattle.quick.specs.Quick.{quickOf}
-use Rattle.step.proofs.Looking.{rest-is, quick-look, nested-wrong, quick-wrong}
+use Rattle.step.proofs.LookLaws.{rest-is, quick-look, nested-wrong, quick-wrong}
 use Rattle.step.proofs.looks.looked.Statement.{statement}
 use Rattle.step.proofs.looks.looked.Tie as tie
 
-is-nested-requires : tie.Need-is-nested-requires
-is-nested-requires c κs = search needs
+abbrev start : tie.After-quick → tie.Start
+start c = c .before .before .before .before .before
 
-searched-requires : tie.Need-searched-requires
-searched-requires c κs = let p = c .before .before .before .pre in let a = c .before .before .before .args in (search needs, nested-wrong _ (a .batch .now) (a .at) _ (p .1) (sym (c .before .is-nested .ensures) ∙ c .if1 .taken), p .2)
+-- the quick look was lent all that is left of the batch
+quick-is : (c : tie.After-quick)
+    → c .quick .result ≡ quickOf (start c .args .w) (start c .args .row) (drop (start c .args .at) (start c .args .batch .now))
+quick-is c =
+    let a = start c .args in
+    c .quick .ensures ∙ ap (quickOf (a .w) (a .row)) (rest-is (a .batch .now) (a .at))
 
-returns : tie.Need-returns
-returns c = search needs
+nested-searched : tie.Need-searched-requires
+nested-searched c κs =
+    let s = c .before .before .before in
+    (search needs, nested-wrong _ (s .args .batch .now) (s .args .at) _ (s .pre .1) (sym (c .before .is-nested .ensures) ∙ c .if1 .taken), s .pre .2)
 
-mul-quick : tie.Need-mul-quick
-mul-quick c = search needs
+unpassed-searched : tie.Need-searched-requires-2
+unpassed-searched c κs =
+    let s = start (c .before) in
+    (search needs, quick-wrong _ (s .args .batch .now) (s .args .at) _ (s .pre .1) (quick-is (c .before)) (c .if2 .taken), s .pre .2)
 
-sub-quick : tie.Need-sub-quick
-sub-quick c = search needs
-
-part-quick-start : tie.Need-part-quick-start
-part-quick-start c = search needs
-
-part-quick-end : tie.Need-part-quick-end
-part-quick-end c = search needs
-
-quick-requires : tie.Need-quick-requires
-quick-requires c κs = search needs
-
-searched-requires-2 : tie.Need-searched-requires-2
-searched-requires-2 c κs = let p = c .before .before .before .before .before .before .pre in let a = c .before .before .before .before .before .before .args in (search needs, quick-wrong _ (a .batch .now) (a .at) _ (p .1) (c .before .quick .ensures ∙ ap (quickOf (a .w) (a .row)) (rest-is (a .batch .now) (a .at))) (c .if2 .taken), p .2)
-
-returns-2 : tie.Need-returns-2
-returns-2 c = search needs
-
-returns-3 : tie.Need-returns-3
-returns-3 c = quick-look _ (c .before .before .before .before .before .before .args .batch .now) (c .before .before .before .before .before .before .args .at) _ (c .before .before .before .before .before .before .pre .1) (c .before .before .before .before .before .before .pre .0) (c .before .quick .ensures ∙ ap (quickOf (c .before .before .before .before .before .before .args .w) (c .before .before .before .before .before .before .args .row)) (rest-is (c .before .before .before .before .before .before .args .batch .now) (c .before .before .before .before .before .before .args .at))) (c .if2 .left) (sym (c .before .before .before .before .is-nested .ensures) ∙ c .before .before .before .if1 .left)
+passed : tie.Need-returns-3
+passed c =
+    let s = start (c .before) in
+    let unnested = c .before .before .before in
+    quick-look _ (s .args .batch .now) (s .args .at) _ (s .pre .1) (s .pre .0) (quick-is (c .before)) (c .if2 .left)
+    (sym (unnested .before .is-nested .ensures) ∙ unnested .if1 .left)
 
 pub looked-spec : {M : Type 1} → statement M
 looked-spec =
     tie.close
-    (tie.spec
-    is-nested-requires
-    searched-requires
-    returns
-    mul-quick
-    sub-quick
-    part-quick-start
-    part-quick-end
-    quick-requires
-    searched-requires-2
-    returns-2
-    returns-3)
+    (tie.spec (λ c κs. search needs) nested-searched (λ c. search needs) (λ c. search needs) (λ c. search needs) (λ c. search needs)
+    (λ c. search needs) (λ c κs. search needs) unpassed-searched (λ c. search needs) passed)

@@ -1,113 +1,113 @@
 -- `step::looks::searched` meets its contract: one law for each way out, in the order of the checks.
 -- Assumes nothing.
 use borrow.Author.Needs.{needs}
-use mathlib.Core.Path.{sym, ap, _∙_}
+use Prim.Native.Nat.{_+_, _≤_, _<_}
+use mathlib.Core.Bool.{Bool, true}
+use mathlib.Core.Path.{_≡_, sym, ap, _∙_}
 use native.Mathlib.Omega.{arith}
+use lib.ListN.{length}
 use borrow.Author.Tests.{not-true, not-false}
+use Rattle.rules.specs.Commands.{lengthRight, rowCount}
+use Rattle.rules.specs.Step.{headerAt, rowAt, lengthAt, dwordsAt}
 use Rattle.rules.proofs.Searching.{never-both}
+use Rattle.step.specs.Parts.{contentOf}
 use Rattle.step.specs.Looks.{isWrong}
 use Rattle.step.proofs.Ways.{length-is, right-is, short, part-below}
-use Rattle.step.proofs.Looking.{unknown-look, misfit-look, past-look, content-look, whole-look, content-same}
+use Rattle.step.proofs.LookLaws.{unknown-look, misfit-look, past-look, content-look, whole-look, content-same}
 use Rattle.step.proofs.looks.searched.Statement.{statement}
 use Rattle.step.proofs.looks.searched.Tie as tie
 
-mul-header : tie.Need-mul-header
-mul-header c = search needs
+abbrev start : tie.After-length-right → tie.Start
+start c = c .before .before .before .before .before
 
-shared-slice-read-header : tie.Need-shared-slice-read-header
-shared-slice-read-header c = search needs
+abbrev tested : tie.After-length-of → tie.After-length-right
+tested c = c .before .before
 
-row-of-requires : tie.Need-row-of-requires
-row-of-requires c κs = search needs
+abbrev sized : tie.After-content-fault → tie.After-length-of
+sized c = c .before .before .before .before .before
 
-wrong-requires : tie.Need-wrong-requires
-wrong-requires c κs = search needs
+abbrev begun : tie.After-content-fault → tie.Start
+begun c = start (tested (sized c))
 
-returns : tie.Need-returns
-returns c = c .wrong .ensures ∙ unknown-look _ _ _ _ (omega (arith, c .before .before .row-of .ensures))
+-- what has been asked so far, of the command at the position
+row-is : (c : tie.After-length-right) → c .before .before .row-of .result ≡ rowAt (start c .args .batch .now) (start c .args .at)
+row-is c = c .before .before .row-of .ensures
 
-length-right-requires : tie.Need-length-right-requires
-length-right-requires c κs = search needs
+known : (c : tie.After-length-right) → rowAt (start c .args .batch .now) (start c .args .at) < rowCount
+known c = omega (arith, row-is c)
 
-wrong-requires-2 : tie.Need-wrong-requires-2
-wrong-requires-2 c κs = search needs
+right : (c : tie.After-length-right) {u : Bool} → c .length-right .result ≡ u
+    → lengthRight (rowAt (start c .args .batch .now) (start c .args .at)) (headerAt (start c .args .batch .now) (start c .args .at))
+    ≡ u
+right c e = right-is (start c .args .batch .now) (start c .args .at) (row-is c) (c .length-right .ensures) e
 
-returns-2 : tie.Need-returns-2
-returns-2 c = let batch = c .before .before .before .before .before .before .before .args .batch .now in let at = c .before .before .before .before .before .before .before .args .at in let er = c .before .before .before .before .row-of .ensures in let right = right-is batch at er (c .before .before .length-right .ensures) (not-true _ (c .before .if2 .taken)) in c .wrong2 .ensures ∙ misfit-look _ _ _ _ (omega (arith, er)) right
+fitting : (c : tie.After-length-of)
+    → lengthRight (rowAt (start (tested c) .args .batch .now) (start (tested c) .args .at))
+    (headerAt (start (tested c) .args .batch .now) (start (tested c) .args .at))
+    ≡ true
+fitting c = right (tested c) (not-false _ (c .before .if2 .left))
 
-length-of-requires : tie.Need-length-of-requires
-length-of-requires c κs = search needs
+counted : (c : tie.After-length-of)
+    → c .length-of .result ≡ lengthAt (start (tested c) .args .batch .now) (start (tested c) .args .at)
+counted c = length-is (start (tested c) .args .batch .now) (start (tested c) .args .at) (row-is (tested c)) (c .length-of .ensures)
 
-sub-if3 : tie.Need-sub-if3
-sub-if3 c = search needs
+within : (c : tie.After-content-fault)
+    → begun c .args .at + lengthAt (begun c .args .batch .now) (begun c .args .at)
+    ≤ length (begun c .args .batch .now)
+within c = omega (arith, counted (sized c))
 
-wrong-requires-3 : tie.Need-wrong-requires-3
-wrong-requires-3 c κs = search needs
+content : (c : tie.After-content-fault)
+    → contentOf (begun c .args .w) (rowAt (begun c .args .batch .now) (begun c .args .at))
+    (dwordsAt (begun c .args .batch .now) (begun c .args .at)) (begun c .args .at)
+    (begun c .args .level)
+    ≡ c .content-fault .result
+content c =
+    let a = begun c .args in
+    sym (content-same _ (a .batch .now) (a .at) _ (row-is (tested (sized c))) (counted (sized c))) ∙ sym (c .content-fault .ensures)
 
-returns-3 : tie.Need-returns-3
-returns-3 c = let batch = c .before .before .before .before .before .before .before .before .before .args .batch .now in let at = c .before .before .before .before .before .before .before .before .before .args .at in let er = c .before .before .before .before .before .before .row-of .ensures in let el = length-is batch at er (c .before .before .length-of .ensures) in let right = right-is batch at er (c .before .before .before .before .length-right .ensures) (not-false _ (c .before .before .before .if2 .left)) in c .wrong3 .ensures ∙ past-look _ _ _ _ (omega (arith, er)) right (omega (arith, el))
+unknown-header : tie.Need-returns
+unknown-header c = c .wrong .ensures ∙ unknown-look _ _ _ _ (omega (arith, c .before .before .row-of .ensures))
 
-add-next : tie.Need-add-next
-add-next c = search needs
+wrong-length : tie.Need-returns-2
+wrong-length c =
+    let t = c .before .before in
+    c .wrong2 .ensures ∙ misfit-look _ _ _ _ (known t) (right t (not-true _ (c .before .if2 .taken)))
 
-mul-command : tie.Need-mul-command
-mul-command c = search needs
-
-sub-command : tie.Need-sub-command
-sub-command c = search needs
-
-part-command-start : tie.Need-part-command-start
-part-command-start c = search needs
-
-part-command-end : tie.Need-part-command-end
-part-command-end c = search needs
-
-mask-table-requires : tie.Need-mask-table-requires
-mask-table-requires c κs = search needs
+past-the-window : tie.Need-returns-3
+past-the-window c =
+    let n = c .before .before in
+    c .wrong3 .ensures ∙ past-look _ _ _ _ (known (tested n)) (fitting n) (omega (arith, counted n))
 
 content-fault-requires : tie.Need-content-fault-requires
-content-fault-requires c κs = let batch = c .before .before .before .before .before .before .before .before .before .before .before .args .batch .now in let at = c .before .before .before .before .before .before .before .before .before .before .before .args .at in let len = c .before .before .before .before .length-of in (search needs, short batch at (search needs) (len .ensures), omega (arith, part-below batch at (len .result) (omega arith)), c .before .mask-table .ensures, c .before .before .before .before .before .before .before .before .before .before .before .pre .2)
+content-fault-requires c κs =
+    let n = c .before .before .before .before in
+    let s = start (tested n) in (
+      search needs,
+      short (s .args .batch .now) (s .args .at) (search needs) (n .length-of .ensures),
+      omega (arith, part-below (s .args .batch .now) (s .args .at) (n .length-of .result) (omega arith)),
+      c .before .mask-table .ensures,
+      s .pre .2,
+    )
 
-enum-known-f : tie.Need-enum-known-f
-enum-known-f c = search needs
+of-content : tie.Need-returns-4
+of-content c =
+    let asked = c .before .before .before in
+    let n = sized asked in
+    content-look _ _ _ _ (known (tested n)) (fitting n) (within asked) (content asked ∙ c .before .f .given .1)
 
-enum-told : tie.Need-enum-told
-enum-told c = search needs
-
-wrong-requires-4 : tie.Need-wrong-requires-4
-wrong-requires-4 c κs = search needs
-
-returns-4 : tie.Need-returns-4
-returns-4 c = let batch = c .before .before .before .before .before .before .before .before .before .before .before .before .before .before .before .args .batch .now in let at = c .before .before .before .before .before .before .before .before .before .before .before .before .before .before .before .args .at in let er = c .before .before .before .before .before .before .before .before .before .before .before .before .row-of .ensures in let el = length-is batch at er (c .before .before .before .before .before .before .before .before .length-of .ensures) in let right = right-is batch at er (c .before .before .before .before .before .before .before .before .before .before .length-right .ensures) (not-false _ (c .before .before .before .before .before .before .before .before .before .if2 .left)) in content-look _ _ _ _ (omega (arith, er)) right (omega (arith, el)) (sym (content-same _ batch at _ er el) ∙ sym (c .before .before .before .content-fault .ensures) ∙ c .before .f .given .1)
-
-returns-5 : tie.Need-returns-5
-returns-5 c = let batch = c .before .before .before .before .before .before .before .before .before .before .before .before .before .before .before .args .batch .now in let at = c .before .before .before .before .before .before .before .before .before .before .before .before .before .before .before .args .at in let er = c .before .before .before .before .before .before .before .before .before .before .before .before .row-of .ensures in let el = length-is batch at er (c .before .before .before .before .before .before .before .before .length-of .ensures) in let right = right-is batch at er (c .before .before .before .before .before .before .before .before .before .before .length-right .ensures) (not-false _ (c .before .before .before .before .before .before .before .before .before .if2 .left)) in absurd (never-both (c .before .before .before .before .before .before .before .before .before .before .before .before .before .before .before .pre .1) (sym (ap isWrong (whole-look _ _ _ _ (omega (arith, er)) right (omega (arith, el)) (sym (content-same _ batch at _ er el) ∙ sym (c .before .before .before .content-fault .ensures) ∙ c .before .enum-told .given .1)))))
+-- no way out: something is wrong, and a check has found it
+never-clear : tie.Need-returns-5
+never-clear c =
+    let asked = c .before .before .before in
+    let n = sized asked in
+    absurd
+    (never-both (begun asked .pre .1)
+    (sym (ap isWrong (whole-look _ _ _ _ (known (tested n)) (fitting n) (within asked) (content asked ∙ c .before .enum-told .given .1)))))
 
 pub searched-spec : {M : Type 1} → statement M
 searched-spec =
     tie.close
-    (tie.spec
-    mul-header
-    shared-slice-read-header
-    row-of-requires
-    wrong-requires
-    returns
-    length-right-requires
-    wrong-requires-2
-    returns-2
-    length-of-requires
-    sub-if3
-    wrong-requires-3
-    returns-3
-    add-next
-    mul-command
-    sub-command
-    part-command-start
-    part-command-end
-    mask-table-requires
-    content-fault-requires
-    enum-known-f
-    enum-told
-    wrong-requires-4
-    returns-4
-    returns-5)
+    (tie.spec (λ c. search needs) (λ c. search needs) (λ c κs. search needs) (λ c κs. search needs) unknown-header (λ c κs. search needs)
+    (λ c κs. search needs) wrong-length (λ c κs. search needs) (λ c. search needs) (λ c κs. search needs) past-the-window (λ c. search needs)
+    (λ c. search needs) (λ c. search needs) (λ c. search needs) (λ c. search needs) (λ c κs. search needs) content-fault-requires
+    (λ c. search needs) (λ c. search needs) (λ c κs. search needs) of-content never-clear)
