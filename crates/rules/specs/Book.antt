@@ -10,12 +10,47 @@ use Rattle.rules.specs.Masks.{masksOf, allowedOf, allowedAt, bitWrong}
 use Rattle.rules.specs.Formats.{surfaceFormats, formatBits, knownTopology, knownRegister}
 use Rattle.rules.specs.Values.{componentsWrong, valueRules, ruleOf, valueWrong}
 use Rattle.rules.specs.Addresses.{rangeWrong}
-use Rattle.rules.specs.Structures.{layoutOf, structureMask, structureBitWrong, depthWrong, colourWrong, structureValueWrong, structureNowhere, structureBit, structureValue, structureChecks, readAt, verdictOf}
-use Rattle.rules.specs.Step.{dwordsAt, pointerOf, budgetSpent, ranOff, unknownHeader, wrongLength, pastTheWindow, bitNotAllowed, nestedStart, valueBroken, rangeOutside, baseNeverSet, recordsFull, stepChecks, checks, afterEnd, baseAfter, moveOf, commandAt, stepOf}
+use Rattle.rules.specs.Structures.{layoutOf, structureMask, structureBitWrong, depthWrong, colourWrong, structureValueWrong, structureNowhere, structureBit}
+use Rattle.rules.specs.Structures.{structureValue, structureChecks, readAt, verdictOf}
+use Rattle.rules.specs.Step.{dwordsAt, pointerOf, budgetSpent, ranOff, unknownHeader, wrongLength, pastTheWindow, bitNotAllowed, nestedStart, valueBroken}
+use Rattle.rules.specs.Step.{rangeOutside, baseNeverSet, recordsFull, stepChecks, checks, afterEnd, baseAfter, moveOf, commandAt, stepOf}
 use Rattle.rules.specs.Walk.{trace, cut, walk, commandsOf, endOf, answerOf}
 use Rattle.rules.specs.Records.{recordOf, commandOf, wordsOf, commandsIn, writtenOf}
 
--- no sentence of its own: all of document 01 up to "Capture file and printout", for whoever computes
+-- no sentences of their own: the pages of document 01 up to "Capture file and printout", for whoever computes
+unfoldable pub windowsPage : ℕ
+unfolding allowed some someTwo firstFrom inGroup numberOf tried answerWith told windowsOf countsWrong windowChecks windowFault holds windowsWithin fits
+windowsPage = 0
+
+unfoldable pub commandsPage : ℕ
+unfolding rows theRow keyOf rowFrom rowOf lengthOf groupSize lengthRight addressAt usesByRow accessOf accessAt masksOf allowedOf allowedAt bitWrong
+commandsPage = 0
+
+unfoldable pub valuesPage : ℕ
+unfolding surfaceFormats formatBits knownTopology knownRegister componentsWrong valueRules ruleOf valueWrong rangeWrong
+valuesPage = 0
+
+unfoldable pub structuresPage : ℕ
+unfolding ofBits nanBits le holdsDwords heldAt partOf layoutOf structureMask structureBitWrong depthWrong colourWrong structureValueWrong
+structuresPage = 0
+
+unfoldable pub readingPage : ℕ
+unfolding structureNowhere structureBit structureValue structureChecks readAt verdictOf dwordsAt pointerOf
+readingPage = 0
+
+unfoldable pub checksPage : ℕ
+unfolding budgetSpent ranOff unknownHeader wrongLength pastTheWindow bitNotAllowed nestedStart valueBroken rangeOutside baseNeverSet recordsFull
+checksPage = 0
+
+unfoldable pub walkPage : ℕ
+unfolding stepChecks checks afterEnd baseAfter moveOf commandAt stepOf trace cut walk commandsOf endOf answerOf
+walkPage = 0
+
+unfoldable pub recordsPage : ℕ
+unfolding recordOf commandOf wordsOf commandsIn writtenOf
+recordsPage = 0
+
+-- all of them
 unfoldable pub book : ℕ
-unfolding ofBits nanBits le allowed some someTwo firstFrom inGroup numberOf tried answerWith told windowsOf countsWrong windowChecks windowFault holds windowsWithin fits holdsDwords heldAt partOf rows theRow keyOf rowFrom rowOf lengthOf groupSize lengthRight masksOf allowedOf allowedAt bitWrong surfaceFormats formatBits knownTopology knownRegister componentsWrong valueRules ruleOf valueWrong usesByRow accessOf accessAt addressAt rangeWrong layoutOf structureMask structureBitWrong depthWrong colourWrong structureValueWrong structureNowhere structureBit structureValue structureChecks readAt verdictOf dwordsAt pointerOf budgetSpent ranOff unknownHeader wrongLength pastTheWindow bitNotAllowed nestedStart valueBroken rangeOutside baseNeverSet recordsFull stepChecks checks afterEnd baseAfter moveOf commandAt stepOf trace cut walk commandsOf endOf answerOf recordOf commandOf wordsOf commandsIn writtenOf
+unfolding windowsPage commandsPage valuesPage structuresPage readingPage checksPage walkPage recordsPage
 book = 0

@@ -21,7 +21,8 @@ use Rattle.rules.specs.declared.Reason.{Reason}
 use Rattle.rules.specs.declared.Fault.{Fault}
 use Rattle.rules.specs.declared.Verdict.{Verdict}
 use Rattle.rules.specs.declared.Verdict.the-variants.{Pass, Fails}
-use Rattle.rules.specs.declared.Reason.the-variants.{BudgetSpent, RanOff, UnknownHeader, WrongLength, PastTheWindow, BitNotAllowed, NestedStart, ValueBroken, RangeOutside, BaseNeverSet, RecordsFull}
+use Rattle.rules.specs.declared.Reason.the-variants.{BudgetSpent, RanOff, UnknownHeader, WrongLength, PastTheWindow, BitNotAllowed, NestedStart, ValueBroken}
+use Rattle.rules.specs.declared.Reason.the-variants.{RangeOutside, BaseNeverSet, RecordsFull}
 use Rattle.rules.specs.Words.{bit, field, cleared, firstOf}
 use Rattle.rules.specs.Refusals.{batchWindow, fault, refuseIf, refuseFound, firstFault}
 use Rattle.rules.specs.Windows.{Capture, windowsOf, dwordOf}
