@@ -113,7 +113,7 @@ pub fn sound(batch_count: usize, state_count: usize, w: Windows) -> Verdict
 }
 
 // Whether all the bytes lie in some window. Left at the first that holds them, since each test has several ways out.
-fn anywhere(w: Windows, address: u64, bytes: u64) -> bool
+pub fn anywhere(w: Windows, address: u64, bytes: u64) -> bool
     ensures { λ r. ⌜ r ≡ fits w AnyWindow address bytes ⌝ }
 {
     if words::holds(w.batch, address, bytes) {

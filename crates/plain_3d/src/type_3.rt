@@ -1,0 +1,609 @@
+// Rows 7 to 16, the commands of type 3, in the table's order: each row's rules in the order of their numbers, beside document 01's words.
+ghost use mathlib.Core.Path.{_≡_};
+ghost use mathlib.Core.Bool.{true, not, false};
+ghost use mathlib.Core.List.{[], _∷_};
+ghost use Prim.Native.Nat.{_+_, _*_, _^_, _≤_, _<_, _-_};
+ghost use lib.ListN.{length, getD};
+ghost use Rattle.rules.specs.declared.Level.the-variants.{First};
+ghost use Rattle.rules.specs.declared.Reason.the-variants.{BitNotAllowed, ValueBroken, RangeOutside};
+ghost use Rattle.rules.specs.Words.{bit, allowed};
+ghost use Rattle.rules.specs.Refusals.{batchWindow, refuseFound};
+ghost use Rattle.rules.specs.Commands.{pipeRow, selectRow, baseRow, indexBufferRow, topologyRow, viewportRow, colourRow, primitiveRow, rowOf, vertexBuffersRow, vertexElementsRow};
+ghost use Rattle.rules.specs.Uses.{postSync, sized};
+ghost use Rattle.rules.specs.Values.{valueWrong, componentsWrong};
+ghost use Rattle.rules.specs.Addresses.{accessWrong, rangeWrong};
+ghost use Rattle.plain_mi.specs.Plain.{coded, firstCoded, wrongOf, bareOf, noWindows, cleanFrom, Groups, GroupAt};
+ghost use Rattle.rules.specs.Masks.{bitWrong};
+ghost use Rattle.looks.specs.Looks.{contentOf};
+ghost use Rattle.plain_3d.specs.Codes.{strayFrom};
+use crate::codes::known_format;
+use formats::known_topology;
+use plain_mi::heads::address_of;
+use plain_mi::heads::other_header;
+use plain_mi::numbers::BIT;
+use plain_mi::numbers::LENGTH;
+use plain_mi::numbers::NOTHING;
+use plain_mi::numbers::PAST;
+use plain_mi::numbers::RANGE;
+use plain_mi::numbers::VALUE;
+use plain_mi::numbers::at;
+use rules::Windows;
+use windows::anywhere;
+use words::allowed;
+use words::holds;
+
+// 7: PIPE_CONTROL.
+pub fn pipe(w: Windows, rest: &[u32]) -> usize
+    requires { ⌜ (0 < length (now rest)) × (rowOf (getD (now rest) 0 0) ≡ pipeRow) ⌝ }
+    ensures { λ r. ⌜ r ≡ wrongOf w pipeRow (now (rest .entry)) First ⌝ }
+{
+    // 8, 9, 10: "7A000004h"
+    if rest[0] != 0x7A00_0004 {
+        return other_header(rest, 4);
+    }
+    if rest.len() < 6 {
+        return at(PAST, 0);
+    }
+    // 10: "0010FCBFh, address FFFFFFFCh, 2 free"
+    if !allowed(rest[1], 0x0010_FCBF) {
+        return at(BIT, 1);
+    }
+    if !allowed(rest[2], 0xFFFF_FFFC) {
+        return at(BIT, 2);
+    }
+    if !allowed(rest[3], 0x0000_FFFF) {
+        return at(BIT, 3);
+    }
+    // "post-sync is dword 1 bits 15:14"
+    if rest[1] / 0x4000 % 4 == 0 {
+        return pipe_unsynced(rest);
+    }
+    // 12: "else the address is a multiple of 8"
+    if rest[2] % 8 != 0 {
+        return at(VALUE, 2);
+    }
+    // 13: "7 with post-sync (8) in scratch"
+    if !holds(w.scratch, address_of(rest[2], rest[3]), 8) {
+        return at(RANGE, 2);
+    }
+    NOTHING
+}
+
+// 12: "If 0, dwords 2 to 5 are zero".
+fn pipe_unsynced(rest: &[u32]) -> usize
+    requires { ⌜ (6 ≤ length (now rest)) × (postSync (now rest) ≡ 0) ⌝ }
+    ensures { λ r. ⌜ r ≡ firstCoded ValueBroken (valueWrong pipeRow (now (rest .entry))) 0 6 ⌝ }
+{
+    if rest[2] != 0 {
+        return at(VALUE, 2);
+    }
+    if rest[3] != 0 {
+        return at(VALUE, 3);
+    }
+    if rest[4] != 0 {
+        return at(VALUE, 4);
+    }
+    if rest[5] != 0 {
+        return at(VALUE, 5);
+    }
+    NOTHING
+}
+
+// 8: PIPELINE_SELECT.
+pub fn select(header: u32) -> usize
+    requires { ⌜ rowOf header ≡ selectRow ⌝ }
+    ensures { λ r. ⌜ r ≡ bareOf selectRow (header ∷ []) ⌝ }
+{
+    // 10: "69040000h"
+    if header != 0x6904_0000 {
+        return at(BIT, 0);
+    }
+    NOTHING
+}
+
+// 9: STATE_BASE_ADDRESS.
+pub fn base(rest: &[u32]) -> usize
+    requires { ⌜ (0 < length (now rest)) × (rowOf (getD (now rest) 0 0) ≡ baseRow) ⌝ }
+    ensures { λ r. ⌜ r ≡ bareOf baseRow (now (rest .entry)) ⌝ }
+{
+    // 8, 9, 10: "6101000Eh"
+    if rest[0] != 0x6101_000E {
+        return other_header(rest, 14);
+    }
+    if rest.len() < 16 {
+        return at(PAST, 0);
+    }
+    // 10: "dwords 1, 4, 6, 8, 10 allow FFFFF7F1h; 2, 5, 7, 9, 11 allow 0000FFFFh; 3 allows 007F0000h; 12 to 15 allow FFFFF001h"
+    let first = four_bits(rest, 0, 0x6101_000E, 0xFFFF_F7F1, 0x0000_FFFF, 0x007F_0000);
+    if first != NOTHING {
+        return first;
+    }
+    let second = four_bits(rest, 4, 0xFFFF_F7F1, 0x0000_FFFF, 0xFFFF_F7F1, 0x0000_FFFF);
+    if second != NOTHING {
+        return second;
+    }
+    let third = four_bits(rest, 8, 0xFFFF_F7F1, 0x0000_FFFF, 0xFFFF_F7F1, 0x0000_FFFF);
+    if third != NOTHING {
+        return third;
+    }
+    four_bits(rest, 12, 0xFFFF_F001, 0xFFFF_F001, 0xFFFF_F001, 0xFFFF_F001)
+}
+
+// The first of the four dwords from k on with a bit that its mask does not allow.
+fn four_bits(d: &[u32], k: usize, a: u32, b: u32, m: u32, n: u32) -> usize
+    requires { ⌜ k + 4 ≤ length (now d) ⌝ }
+    ensures { λ r. ⌜ r ≡ coded (refuseFound BitNotAllowed batchWindow 0 (strayFrom (now (d .entry)) k (a ∷ b ∷ m ∷ n ∷ []))) ⌝ }
+{
+    if !allowed(d[k], a) {
+        return at(BIT, k);
+    }
+    if !allowed(d[k + 1], b) {
+        return at(BIT, k + 1);
+    }
+    if !allowed(d[k + 2], m) {
+        return at(BIT, k + 2);
+    }
+    if !allowed(d[k + 3], n) {
+        return at(BIT, k + 3);
+    }
+    NOTHING
+}
+
+// 10: 3DSTATE_VERTEX_BUFFERS.
+pub fn vertex_buffers(w: Windows, rest: &[u32]) -> usize
+    requires { ⌜ (0 < length (now rest)) × (rowOf (getD (now rest) 0 0) ≡ vertexBuffersRow) ⌝ }
+    ensures { λ r. ⌜ r ≡ wrongOf w vertexBuffersRow (now (rest .entry)) First ⌝ }
+{
+    let header = rest[0];
+    let field = header % 256;
+    // 8: "field 4n-1, n 1..33"
+    if field % 4 != 3 {
+        return at(LENGTH, 0);
+    }
+    if 131 < field {
+        return at(LENGTH, 0);
+    }
+    // 9
+    let length = field as usize + 2;
+    if rest.len() < length {
+        return at(PAST, 0);
+    }
+    // 10: "78080000h"
+    if header - field != 0x7808_0000 {
+        return at(BIT, 0);
+    }
+    buffers(w, &rest[..length])
+}
+
+// 10: "n of FC7F6FFFh, address free, free", of the buffer at k.
+fn buffer_bit(d: &[u32], k: usize) -> usize
+    requires { ⌜ GroupAt 4 (now d) k ⌝ }
+    ensures { λ r. ⌜ r ≡ firstCoded BitNotAllowed (bitWrong vertexBuffersRow (now (d .entry))) k 4 ⌝ }
+{
+    if !allowed(d[k], 0xFC7F_6FFF) {
+        return at(BIT, k);
+    }
+    if !allowed(d[k + 2], 0x0000_FFFF) {
+        return at(BIT, k + 2);
+    }
+    NOTHING
+}
+
+// 12: "index (31:26) at most 32, pitch (11:0) at most 2,048".
+fn buffer_value(d: &[u32], k: usize) -> usize
+    requires { ⌜ GroupAt 4 (now d) k ⌝ }
+    ensures { λ r. ⌜ r ≡ firstCoded ValueBroken (valueWrong vertexBuffersRow (now (d .entry))) k 4 ⌝ }
+{
+    if 32 < d[k] / 0x400_0000 {
+        return at(VALUE, k);
+    }
+    if 2048 < d[k] % 0x1000 {
+        return at(VALUE, k);
+    }
+    NOTHING
+}
+
+// 13: "Row 10 with bit 13 clear, bit 14 set and size not 0: the range in one window".
+fn buffer_fits(w: Windows, d: &[u32], k: usize) -> bool
+    requires { ⌜ GroupAt 4 (now d) k ⌝ }
+    ensures { λ r. ⌜ r ≡ not (rangeWrong w vertexBuffersRow (now (d .entry)) (k + 1)) ⌝ }
+{
+    if d[k] / 0x2000 % 4 != 2 {
+        return true;
+    }
+    sized_fits(w, d[k + 1], d[k + 2], d[k + 3])
+}
+
+// "size not 0: the range in one window".
+fn sized_fits(w: Windows, low: u32, high: u32, size: u32) -> bool
+    ensures { λ r. ⌜ r ≡ not (accessWrong w (low + 2 ^ 32 * high) (sized size)) ⌝ }
+{
+    if size == 0 {
+        return true;
+    }
+    anywhere(w, address_of(low, high), size as u64)
+}
+
+// The first 10 of all buffers.
+fn buffer_bits(d: &[u32]) -> usize
+    requires { ⌜ Groups 4 (now d) ⌝ }
+    ensures { λ r. ⌜ r ≡ firstCoded BitNotAllowed (bitWrong vertexBuffersRow (now (d .entry))) 1 (length (now (d .entry)) - 1) ⌝ }
+{
+    let mut k = 1;
+    while k < d.len() {
+        let bit = buffer_bit(d, k);
+        if bit != NOTHING {
+            return bit;
+        }
+        k += 4;
+    }
+    NOTHING
+}
+
+// The first 12 of all buffers.
+fn buffer_values(d: &[u32]) -> usize
+    requires { ⌜ Groups 4 (now d) ⌝ }
+    ensures { λ r. ⌜ r ≡ firstCoded ValueBroken (valueWrong vertexBuffersRow (now (d .entry))) 1 (length (now (d .entry)) - 1) ⌝ }
+{
+    let mut k = 1;
+    while k < d.len() {
+        let value = buffer_value(d, k);
+        if value != NOTHING {
+            return value;
+        }
+        k += 4;
+    }
+    NOTHING
+}
+
+// Whether nothing is wrong with the buffer at k.
+fn buffer_good(w: Windows, d: &[u32], k: usize) -> bool
+    requires { ⌜ GroupAt 4 (now d) k ⌝ }
+    ensures { λ r. ⌜ r ≡ cleanFrom w vertexBuffersRow (now (d .entry)) k 4 ⌝ }
+{
+    if buffer_bit(d, k) != NOTHING {
+        return false;
+    }
+    if buffer_value(d, k) != NOTHING {
+        return false;
+    }
+    buffer_fits(w, d, k)
+}
+
+// Whether nothing is wrong with any buffer.
+fn buffers_good(w: Windows, d: &[u32]) -> bool
+    requires { ⌜ Groups 4 (now d) ⌝ }
+    ensures { λ r. ⌜ r ≡ cleanFrom w vertexBuffersRow (now (d .entry)) 1 (length (now (d .entry)) - 1) ⌝ }
+{
+    let mut k = 1;
+    while k < d.len() {
+        if !buffer_good(w, d, k) {
+            return false;
+        }
+        k += 4;
+    }
+    true
+}
+
+// The first 13 of all buffers.
+fn buffer_ranges(w: Windows, d: &[u32]) -> usize
+    requires { ⌜ Groups 4 (now d) ⌝ }
+    ensures { λ r. ⌜ r ≡ firstCoded RangeOutside (rangeWrong w vertexBuffersRow (now (d .entry))) 1 (length (now (d .entry)) - 1) ⌝ }
+{
+    let mut k = 1;
+    while k < d.len() {
+        if !buffer_fits(w, d, k) {
+            return at(RANGE, k + 1);
+        }
+        k += 4;
+    }
+    NOTHING
+}
+
+// All buffers: most are in order, and else the first 10 goes before the first 12, and that before the first 13, wherever they stand.
+fn buffers(w: Windows, d: &[u32]) -> usize
+    requires { ⌜ (Groups 4 (now d)) × (bitWrong vertexBuffersRow (now d) 0 ≡ false) ⌝ }
+    ensures { λ r. ⌜ r ≡ coded (contentOf w vertexBuffersRow (now (d .entry)) 0 First) ⌝ }
+{
+    if buffers_good(w, d) {
+        return NOTHING;
+    }
+    let bit = buffer_bits(d);
+    if bit != NOTHING {
+        return bit;
+    }
+    let value = buffer_values(d);
+    if value != NOTHING {
+        return value;
+    }
+    buffer_ranges(w, d)
+}
+
+// 11: 3DSTATE_VERTEX_ELEMENTS.
+pub fn vertex_elements(rest: &[u32]) -> usize
+    requires { ⌜ (0 < length (now rest)) × (rowOf (getD (now rest) 0 0) ≡ vertexElementsRow) ⌝ }
+    ensures { λ r. ⌜ r ≡ bareOf vertexElementsRow (now (rest .entry)) ⌝ }
+{
+    let header = rest[0];
+    let field = header % 256;
+    // 8: "field 2n-1, n 1..34"
+    if field % 2 != 1 {
+        return at(LENGTH, 0);
+    }
+    if 67 < field {
+        return at(LENGTH, 0);
+    }
+    // 9
+    let length = field as usize + 2;
+    if rest.len() < length {
+        return at(PAST, 0);
+    }
+    // 10: "78090000h"
+    if header - field != 0x7809_0000 {
+        return at(BIT, 0);
+    }
+    elements(&rest[..length])
+}
+
+// 10: "n of FFFF8FFFh, 77770000h", of the element at k.
+fn element_bit(d: &[u32], k: usize) -> usize
+    requires { ⌜ GroupAt 2 (now d) k ⌝ }
+    ensures { λ r. ⌜ r ≡ firstCoded BitNotAllowed (bitWrong vertexElementsRow (now (d .entry))) k 2 ⌝ }
+{
+    if !allowed(d[k], 0xFFFF_8FFF) {
+        return at(BIT, k);
+    }
+    if !allowed(d[k + 1], 0x7777_0000) {
+        return at(BIT, k + 1);
+    }
+    NOTHING
+}
+
+// "component controls, in bits 30:28, 26:24, 22:20, 18:16, each at most 4, component 0 not 0, and after a 0 only 0", of a word that keeps its mask:
+// above each control a bit is clear, which 3 sets in one above 4, and 7 in one that is not 0.
+fn controls_good(word: u32) -> bool
+    requires { ⌜ allowed word 0x77770000 ≡ true ⌝ }
+    ensures { λ r. ⌜ r ≡ not (componentsWrong word) ⌝ }
+{
+    let over = word + 0x3333_0000;
+    let used = word + 0x7777_0000;
+    // four that are not 0, and none above 4
+    if (over ^ used) & 0x8888_0000 == 0x8888_0000 {
+        return true;
+    }
+    if over & 0x8888_0000 != 0 {
+        return false;
+    }
+    // fewer: the first, and each other only behind one that is used
+    let some = used & 0x8888_0000;
+    0x8000_0000 <= some && allowed(some % 0x8000_0000, some / 16)
+}
+
+// 12 of the element at k: "index at most 32; format (24:16) with an entry above 0 in SURFACE_FORMAT", and the controls.
+fn element_value(d: &[u32], k: usize) -> usize
+    requires { ⌜ (GroupAt 2 (now d) k) × (allowed (getD (now d) (k + 1) 0) 0x77770000 ≡ true) ⌝ }
+    ensures { λ r. ⌜ r ≡ firstCoded ValueBroken (valueWrong vertexElementsRow (now (d .entry))) k 2 ⌝ }
+{
+    let word = d[k];
+    if 32 < word / 0x400_0000 {
+        return at(VALUE, k);
+    }
+    if !known_format(word / 0x1_0000 % 0x200) {
+        return at(VALUE, k);
+    }
+    if !controls_good(d[k + 1]) {
+        return at(VALUE, k + 1);
+    }
+    NOTHING
+}
+
+// The first 10 of all elements.
+fn element_bits(d: &[u32]) -> usize
+    requires { ⌜ Groups 2 (now d) ⌝ }
+    ensures { λ r. ⌜ r ≡ firstCoded BitNotAllowed (bitWrong vertexElementsRow (now (d .entry))) 1 (length (now (d .entry)) - 1) ⌝ }
+{
+    let mut k = 1;
+    while k < d.len() {
+        let bit = element_bit(d, k);
+        if bit != NOTHING {
+            return bit;
+        }
+        k += 2;
+    }
+    NOTHING
+}
+
+// Whether nothing is wrong with the element at k.
+fn element_good(d: &[u32], k: usize) -> bool
+    requires { ⌜ GroupAt 2 (now d) k ⌝ }
+    ensures { λ r. ⌜ r ≡ cleanFrom noWindows vertexElementsRow (now (d .entry)) k 2 ⌝ }
+{
+    if element_bit(d, k) != NOTHING {
+        return false;
+    }
+    element_value(d, k) == NOTHING
+}
+
+// Whether nothing is wrong with any element.
+fn elements_good(d: &[u32]) -> bool
+    requires { ⌜ Groups 2 (now d) ⌝ }
+    ensures { λ r. ⌜ r ≡ cleanFrom noWindows vertexElementsRow (now (d .entry)) 1 (length (now (d .entry)) - 1) ⌝ }
+{
+    let mut k = 1;
+    while k < d.len() {
+        if !element_good(d, k) {
+            return false;
+        }
+        k += 2;
+    }
+    true
+}
+
+// The first 12 of all elements.
+fn element_values(d: &[u32]) -> usize
+    requires { ⌜ (Groups 2 (now d)) × (firstCoded BitNotAllowed (bitWrong vertexElementsRow (now d)) 1 (length (now d) - 1) ≡ 0) ⌝ }
+    ensures { λ r. ⌜ r ≡ firstCoded ValueBroken (valueWrong vertexElementsRow (now (d .entry))) 1 (length (now (d .entry)) - 1) ⌝ }
+{
+    let mut k = 1;
+    while k < d.len() {
+        let value = element_value(d, k);
+        if value != NOTHING {
+            return value;
+        }
+        k += 2;
+    }
+    NOTHING
+}
+
+// All elements: most are in order, and else the first 10 goes before the first 12, wherever they stand.
+fn elements(d: &[u32]) -> usize
+    requires { ⌜ (Groups 2 (now d)) × (bitWrong vertexElementsRow (now d) 0 ≡ false) ⌝ }
+    ensures { λ r. ⌜ r ≡ coded (contentOf noWindows vertexElementsRow (now (d .entry)) 0 First) ⌝ }
+{
+    if elements_good(d) {
+        return NOTHING;
+    }
+    let bit = element_bits(d);
+    if bit != NOTHING {
+        return bit;
+    }
+    element_values(d)
+}
+
+// 12: 3DSTATE_INDEX_BUFFER.
+pub fn index_buffer(w: Windows, rest: &[u32]) -> usize
+    requires { ⌜ (0 < length (now rest)) × (rowOf (getD (now rest) 0 0) ≡ indexBufferRow) ⌝ }
+    ensures { λ r. ⌜ r ≡ wrongOf w indexBufferRow (now (rest .entry)) First ⌝ }
+{
+    // 8, 9, 10: "780A0003h"
+    if rest[0] != 0x780A_0003 {
+        return other_header(rest, 3);
+    }
+    if rest.len() < 5 {
+        return at(PAST, 0);
+    }
+    // 10: "37Fh, address free, free"
+    if !allowed(rest[1], 0x0000_037F) {
+        return at(BIT, 1);
+    }
+    if !allowed(rest[3], 0x0000_FFFF) {
+        return at(BIT, 3);
+    }
+    // 12: "format (9:8) not 3"
+    if rest[1] / 0x100 % 4 == 3 {
+        return at(VALUE, 1);
+    }
+    // 13: "row 12 likewise with size not 0"
+    if !sized_fits(w, rest[2], rest[3], rest[4]) {
+        return at(RANGE, 2);
+    }
+    NOTHING
+}
+
+// 13: 3DSTATE_VF_TOPOLOGY.
+pub fn topology(rest: &[u32]) -> usize
+    requires { ⌜ (0 < length (now rest)) × (rowOf (getD (now rest) 0 0) ≡ topologyRow) ⌝ }
+    ensures { λ r. ⌜ r ≡ bareOf topologyRow (now (rest .entry)) ⌝ }
+{
+    // 8, 9, 10: "784B0000h"
+    if rest[0] != 0x784B_0000 {
+        return other_header(rest, 0);
+    }
+    if rest.len() < 2 {
+        return at(PAST, 0);
+    }
+    // 10: "3Fh"
+    if !allowed(rest[1], 0x0000_003F) {
+        return at(BIT, 1);
+    }
+    // 12: "01h..14h, 16h, 20h..3Fh"
+    if !known_topology(rest[1]) {
+        return at(VALUE, 1);
+    }
+    NOTHING
+}
+
+// 14: 3DSTATE_VIEWPORT_STATE_POINTERS_CC.
+pub fn viewport(rest: &[u32]) -> usize
+    requires { ⌜ (0 < length (now rest)) × (rowOf (getD (now rest) 0 0) ≡ viewportRow) ⌝ }
+    ensures { λ r. ⌜ r ≡ bareOf viewportRow (now (rest .entry)) ⌝ }
+{
+    // 8, 9, 10: "78230000h"
+    if rest[0] != 0x7823_0000 {
+        return other_header(rest, 0);
+    }
+    if rest.len() < 2 {
+        return at(PAST, 0);
+    }
+    // 10: "FFFFFFE0h"
+    if !allowed(rest[1], 0xFFFF_FFE0) {
+        return at(BIT, 1);
+    }
+    NOTHING
+}
+
+// 15: 3DSTATE_CC_STATE_POINTERS.
+pub fn colour(rest: &[u32]) -> usize
+    requires { ⌜ (0 < length (now rest)) × (rowOf (getD (now rest) 0 0) ≡ colourRow) ⌝ }
+    ensures { λ r. ⌜ r ≡ bareOf colourRow (now (rest .entry)) ⌝ }
+{
+    // 8, 9, 10: "780E0000h"
+    if rest[0] != 0x780E_0000 {
+        return other_header(rest, 0);
+    }
+    if rest.len() < 2 {
+        return at(PAST, 0);
+    }
+    // 10: "FFFFFFC1h"
+    if !allowed(rest[1], 0xFFFF_FFC1) {
+        return at(BIT, 1);
+    }
+    NOTHING
+}
+
+// 16: 3DPRIMITIVE.
+pub fn primitive(rest: &[u32]) -> usize
+    requires { ⌜ (0 < length (now rest)) × (rowOf (getD (now rest) 0 0) ≡ primitiveRow) ⌝ }
+    ensures { λ r. ⌜ r ≡ bareOf primitiveRow (now (rest .entry)) ⌝ }
+{
+    let header = rest[0];
+    // 8, 9, 10: "7B000005h + bits 10:8", which are free
+    if header - header / 0x100 % 8 * 0x100 != 0x7B00_0005 {
+        return other_header(rest, 5);
+    }
+    if rest.len() < 7 {
+        return at(PAST, 0);
+    }
+    // 10: "33Fh, 5 free"
+    if !allowed(rest[1], 0x0000_033F) {
+        return at(BIT, 1);
+    }
+    // 12: "with bit 9, .."
+    if rest[1] / 0x200 % 2 == 1 {
+        return primitive_by_end(header, rest);
+    }
+    NOTHING
+}
+
+// 12: "dword 1 bit 9 not with header bit 10 (place dword 1); with bit 9, dword 1 bit 8 is 0 and dwords 3, 5, 6 are 0".
+fn primitive_by_end(header: u32, rest: &[u32]) -> usize
+    requires { ⌜ (7 ≤ length (now rest)) × (header ≡ getD (now rest) 0 0) × (bit (getD (now rest) 1 0) 9 ≡ true) ⌝ }
+    ensures { λ r. ⌜ r ≡ firstCoded ValueBroken (valueWrong primitiveRow (now (rest .entry))) 0 7 ⌝ }
+{
+    if header / 0x400 % 2 == 1 {
+        return at(VALUE, 1);
+    }
+    if rest[1] / 0x100 % 2 == 1 {
+        return at(VALUE, 1);
+    }
+    if rest[3] != 0 {
+        return at(VALUE, 3);
+    }
+    if rest[5] != 0 {
+        return at(VALUE, 5);
+    }
+    if rest[6] != 0 {
+        return at(VALUE, 6);
+    }
+    NOTHING
+}
