@@ -1,11 +1,12 @@
 -- The ways out of the checks 7 to 13, and what their answer tells.
 -- Assumes nothing.
-use Prim.Native.Nat.{ℕ, _+_, _≤_, _<_}
+use Prim.Native.Nat.{ℕ, _+_, _-_, _≤_, _<_}
+use native.Mathlib.Nat.{add-sub-cancel-left}
 use native.Mathlib.Omega.{arith}
 use mathlib.Core.Path.{_≡_, refl, sym}
 use mathlib.Core.Bool.{true, false, not}
 use mathlib.Core.List.{List}
-use lib.ListN.{length}
+use lib.ListN.{length, take, drop}
 use lib.Dec.{leb, ltb}
 use borrow.Author.Tests.{leb-false, ltb-false, le-leb, lt-leb, lt-ltb, le-ltb, not-false}
 use Rattle.rules.specs.declared.Windows.{Windows}
@@ -54,6 +55,12 @@ module _ (w : Windows) (batch : List ℕ) (at : ℕ) (level : Level) where
             → Whole (rowAt batch at) (lengthAt batch at) ≡ lookOf w batch at level
         unfolding lookOf ownOf
         whole-look e = rw (lt-leb _ _ k, r, le-ltb _ _ l, e)
+
+-- the part of the batch that the code takes for a command is its dwords
+pub dwords-are : (batch : List ℕ) (at : ℕ) {len : ℕ} → len ≡ lengthAt batch at
+    → take (at + len - at) (drop at batch) ≡ dwordsAt batch at
+unfolding dwordsAt
+dwords-are batch at e = rw (add-sub-cancel-left, e)
 
 -- what an answer tells
 unlike : {f : Fault} {r n : ℕ} → Wrong f ≡ Whole r n → ⊥

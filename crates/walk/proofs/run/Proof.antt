@@ -23,15 +23,18 @@ use Rattle.walk.proofs.run.Statement.{statement}
 use Rattle.walk.proofs.run.Tie as tie
 
 abbrev Inv-loop : tie.InvT-loop
-Inv-loop batch state w records₀ formats room n₀ s₀ records n s =
+Inv-loop engine batch state w records₀ masks formats room n₀ s₀ records n s =
     (Going (s₀ .base) (captured w batch state) records₀ records n s) × (n ≤ room)
 
 abbrev μ-loop : tie.MeasureT-loop
-μ-loop batch state w records₀ formats room n₀ s₀ records n s = room - n
+μ-loop engine batch state w records₀ masks formats room n₀ s₀ records n s = room - n
 
--- the places before the loop: where the function starts, where the room is counted, where the cursor is made
+-- the places before the loop: where the masks are made, where the function starts, where the room is counted, where the cursor is made
+abbrev tables : tie.After-room-in Inv-loop μ-loop → tie.After-mask-table Inv-loop μ-loop
+tables c = c .before
+
 abbrev start : tie.After-room-in Inv-loop μ-loop → tie.Start Inv-loop μ-loop
-start c = c .before .before .before .before
+start c = tables c .before .before .before .before
 
 abbrev counted : tie.At-loop Inv-loop μ-loop → tie.After-room-in Inv-loop μ-loop
 counted l = l .before .before
@@ -41,7 +44,7 @@ begun l = l .before
 
 -- the places of a turn: its head, the step, the command that it took, and that command where there is room for its record
 abbrev turn : tie.After-step Inv-loop μ-loop → tie.At-loop Inv-loop μ-loop
-turn c = c .before .before
+turn c = c .before .before .before
 
 abbrev stepped : tie.After-command Inv-loop μ-loop → tie.After-step Inv-loop μ-loop
 stepped c = c .before .before
@@ -85,7 +88,10 @@ loop-holds c = (started _ _ (c .started .ensures) (start (c .before) .pre .3), o
 
 step-requires : tie.Need-step-requires Inv-loop μ-loop
 unfolding surfaceFormats
-step-requires c κs = (start (counted (c .before)) .pre .0, c .before .loop .inv .0 .small, refl)
+step-requires c κs =
+    let l = c .before .before in
+    let room = counted l in
+    (start room .pre .0, l .loop .inv .0 .small, tables room .mask-table .ensures, refl)
 
 stopped-requires : tie.Need-stopped-requires Inv-loop μ-loop
 stopped-requires c κs =
@@ -143,7 +149,7 @@ loop-again c =
 pub run-spec : {M : Type 1} → statement M
 run-spec =
     tie.close
-    (tie.spec Inv-loop μ-loop (λ c κs. search needs) (λ c κs. search needs) loop-holds step-requires
+    (tie.spec Inv-loop μ-loop (λ c κs. search needs) (λ c κs. search needs) (λ c κs. search needs) loop-holds step-requires
     -- the command is not taken
     (λ c. search needs) stopped-requires (λ c. search needs) returns
     -- there is no room for its record

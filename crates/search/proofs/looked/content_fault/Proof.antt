@@ -1,4 +1,4 @@
--- `step::faults::content_fault` meets its contract: one law for each way out, in the order of the checks.
+-- `search::looked::content_fault` meets its contract: one law for each way out, in the order of the checks.
 -- Assumes nothing.
 use mathlib.Core.Path.{_≡_, sym, _∙_}
 use mathlib.Core.Bool.{false}
@@ -9,12 +9,12 @@ use Rattle.rules.specs.declared.Found.{Found}
 use Rattle.rules.specs.declared.Found.the-variants.{At, Nothing}
 use Rattle.rules.specs.Words.{firstOf}
 use Rattle.rules.specs.Step.{nested}
 use Rattle.search.specs.declared.Sought.{Sought}
 use Rattle.search.specs.declared.Sought.the-variants.{Bits, Values, Ranges}
 use Rattle.search.specs.Search.{wrong}
-use Rattle.step.proofs.Contents.{found-below, bits-fail, nested-fails, values-fail, ranges-fail, all-clear}
-use Rattle.step.proofs.faults.content_fault.Statement.{statement}
-use Rattle.step.proofs.faults.content_fault.Tie as tie
+use Rattle.search.proofs.Contents.{found-below, bits-fail, nested-fails, values-fail, ranges-fail, all-clear}
+use Rattle.search.proofs.looked.content_fault.Statement.{statement}
+use Rattle.search.proofs.looked.content_fault.Tie as tie
 
 -- what a search of the command's dwords finds
 abbrev found : Sought → tie.Start → Found

@@ -1,7 +1,7 @@
--- `step::looks::searched` meets its contract: one law for each way out, in the order of the checks.
+-- `search::looked::looked` meets its contract: one law for each way out, in the order of the checks.
 -- Assumes nothing.
 use borrow.Author.Needs.{needs}
-use Prim.Native.Nat.{_+_, _≤_, _<_}
+use Prim.Native.Nat.{ℕ, _+_, _≤_, _<_}
 use mathlib.Core.Bool.{Bool, true}
 use mathlib.Core.Path.{_≡_, sym, ap, _∙_}
 use native.Mathlib.Omega.{arith}
@@ -9,13 +9,12 @@ use lib.ListN.{length}
 use borrow.Author.Tests.{not-true, not-false}
 use Rattle.rules.specs.Commands.{lengthRight, rowCount}
 use Rattle.rules.specs.Step.{headerAt, rowAt, lengthAt, dwordsAt}
-use Rattle.rules.proofs.Searching.{never-both}
-use Rattle.step.specs.Parts.{contentOf}
-use Rattle.step.specs.Looks.{isWrong}
-use Rattle.step.proofs.Ways.{length-is, right-is, short, part-below}
-use Rattle.step.proofs.LookLaws.{unknown-look, misfit-look, past-look, content-look, whole-look, content-same}
-use Rattle.step.proofs.looks.searched.Statement.{statement}
-use Rattle.step.proofs.looks.searched.Tie as tie
+use Rattle.looks.specs.declared.Look.the-variants.{Whole}
+use Rattle.looks.specs.Looks.{contentOf}
+use Rattle.looks.proofs.LookLaws.{unknown-look, misfit-look, past-look, content-look, whole-look}
+use Rattle.search.proofs.Contents.{length-is, right-is, content-same, short, part-below}
+use Rattle.search.proofs.looked.looked.Statement.{statement}
+use Rattle.search.proofs.looked.looked.Tie as tie
 
 abbrev start : tie.After-length-right → tie.Start
 start c = c .before .before .before .before .before
@@ -24,7 +23,7 @@ abbrev tested : tie.After-length-of → tie.After-length-right
 tested c = c .before .before
 
 abbrev sized : tie.After-content-fault → tie.After-length-of
-sized c = c .before .before .before .before .before
+sized c = c .before .before .before
 
 abbrev begun : tie.After-content-fault → tie.Start
 begun c = start (tested (sized c))
@@ -80,12 +79,12 @@ past-the-window c =
 
 content-fault-requires : tie.Need-content-fault-requires
 content-fault-requires c κs =
-    let n = c .before .before .before .before in
+    let n = c .before .before in
     let s = start (tested n) in (
       search needs,
       short (s .args .batch .now) (s .args .at) (search needs) (n .length-of .ensures),
       omega (arith, part-below (s .args .batch .now) (s .args .at) (n .length-of .result) (omega arith)),
-      c .before .mask-table .ensures,
+      s .pre .1,
       s .pre .2,
     )
 
@@ -95,19 +94,19 @@ of-content c =
     let n = sized asked in
     content-look _ _ _ _ (known (tested n)) (fitting n) (within asked) (content asked ∙ c .before .f .given .1)
 
--- no way out: something is wrong, and a check has found it
-never-clear : tie.Need-returns-5
-never-clear c =
-    let asked = c .before .before .before in
-    let n = sized asked in
-    absurd
-    (never-both (begun asked .pre .1)
-    (sym (ap isWrong (whole-look _ _ _ _ (known (tested n)) (fitting n) (within asked) (content asked ∙ c .before .enum-told .given .1)))))
+whole-of : {row r len n : ℕ} → row ≡ r → len ≡ n → Whole row len ≡ Whole r n
+whole-of er en = cc
 
-pub searched-spec : {M : Type 1} → statement M
-searched-spec =
+all-clear : tie.Need-returns-5
+all-clear c =
+    let asked = c .before .before in
+    let n = sized asked in
+    whole-of (row-is (tested n)) (counted n) ∙ whole-look _ _ _ _ (known (tested n)) (fitting n) (within asked) (content asked ∙ c .enum-told .given .1)
+
+pub looked-spec : {M : Type 1} → statement M
+looked-spec =
     tie.close
     (tie.spec (λ c. search needs) (λ c. search needs) (λ c κs. search needs) (λ c κs. search needs) unknown-header (λ c κs. search needs)
     (λ c κs. search needs) wrong-length (λ c κs. search needs) (λ c. search needs) (λ c κs. search needs) past-the-window (λ c. search needs)
-    (λ c. search needs) (λ c. search needs) (λ c. search needs) (λ c. search needs) (λ c κs. search needs) content-fault-requires
-    (λ c. search needs) (λ c. search needs) (λ c κs. search needs) of-content never-clear)
+    (λ c. search needs) (λ c. search needs) (λ c. search needs) (λ c. search needs) content-fault-requires (λ c. search needs) (λ c. search needs)
+    of-content all-clear)

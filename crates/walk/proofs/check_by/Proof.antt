@@ -1,4 +1,4 @@
--- `walk::check` meets its promise: 1 to 4 come first, and then the run.
+-- `walk::check_by` meets its promise: 1 to 4 come first, and then the run.
 -- Assumes nothing.
 use mathlib.Core.Path.{_≡_, _∙_}
 use denote.Ref.{now}
@@ -10,8 +10,8 @@ use Rattle.walk.specs.Lent.{lentCapture}
 use Rattle.walk.proofs.Looping.{judged, unsound, sound, fitting, captured-is, no-base}
 use borrow.Author.Needs.{needs}
 use native.Mathlib.Omega.{arith}
-use Rattle.walk.proofs.check.Statement.{statement}
-use Rattle.walk.proofs.check.Tie as tie
+use Rattle.walk.proofs.check_by.Statement.{statement}
+use Rattle.walk.proofs.check_by.Tie as tie
 
 -- the windows that were made, and the capture that they are of
 abbrev made : tie.After-sound → tie.After-windows-of
@@ -53,8 +53,8 @@ returns-2 c =
     let s = told .before .before in
     sound _ _ (passing told) (rw (captured-is (lent s) (made s .windows-of .ensures)) at (c .before .before .run .ensures))
 
-pub check-spec : {M : Type 1} → statement M
-check-spec =
+pub check-by-spec : {M : Type 1} → statement M
+check-by-spec =
     tie.close
     (tie.spec (λ c κs. search needs) (λ c κs. search needs) (λ c. search needs) refusal-requires returns (λ c. search needs)
     run-requires (λ c. search needs) returns-2)
