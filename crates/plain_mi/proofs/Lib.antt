@@ -1,0 +1,15 @@
+pub mod Coding
+pub mod Tests
+pub mod Headers
+pub mod GroupHeaders
+pub mod Fitting
+pub mod Bare
+pub mod Placing
+pub mod Starts
+pub mod Stores
+pub mod Registers
+pub mod Grouping
+pub mod Dwords
+pub mod Cleanness
+pub mod Content
+pub mod OfGroups
