@@ -1,0 +1,5 @@
+pub mod Headers
+pub mod OneLength
+pub mod FormatWords
+pub mod Controls
+pub mod BufferRanges
