@@ -15,7 +15,7 @@ use Rattle.looks.specs.Looks.{contentOf}
 use Rattle.plain_mi.specs.Plain.{wrongOf, noWindows, bareOf}
 
 module _ (r : ℕ) (e : accessOf r ≡ noUse) where
-  no-range : (w : Windows) (d : List ℕ) → rangeWrong w r d ≡ (λ (k : ℕ). false)
+  pub no-range : (w : Windows) (d : List ℕ) → rangeWrong w r d ≡ (λ (k : ℕ). false)
   unfolding accessAt rangeWrong
   no-range w d = ap {B = ℕ → Bool} (λ (u : Uses). λ k. accessWrong w (addressAt d k) (u d k (spot r k) (getD d k 0))) e
 

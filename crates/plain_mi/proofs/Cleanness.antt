@@ -7,19 +7,19 @@ use mathlib.Core.Bool.{Bool, true, false, not, _&&_, _||_, and-false}
 use mathlib.Core.List.{List}
 use mathlib.Core.Logic.{⊎-elim}
 use lib.Dec.{eqb}
-use lib.ListN.{getD}
 use borrow.Author.Tests.{eqb-true, eq-eqb, ne-eqb}
 use Rattle.rules.specs.declared.Reason.{Reason}
 use Rattle.rules.specs.declared.Reason.the-variants.{BitNotAllowed, ValueBroken, RangeOutside}
 use Rattle.rules.specs.declared.Windows.{Windows}
-use Rattle.rules.specs.Commands.{spot}
-use Rattle.rules.specs.Uses.{Uses, noUse, accessOf, addressAt, accessAt}
+use Rattle.rules.specs.Uses.{noUse, accessOf}
 use Rattle.rules.specs.Masks.{bitWrong}
 use Rattle.rules.specs.Values.{valueWrong}
-use Rattle.rules.specs.Addresses.{accessWrong, rangeWrong}
+use Rattle.rules.specs.Addresses.{rangeWrong}
 use Rattle.rules.proofs.Searching.{either, and-left, and-right}
+use Rattle.rules.proofs.Unique.{above-zero}
 use Rattle.plain_mi.specs.Plain.{firstCoded, freeFrom, faulty, cleanFrom}
-use Rattle.plain_mi.proofs.Coding.{some-number, is-first, not-first, none-left}
+use Rattle.plain_mi.proofs.Bare.{no-range}
+use Rattle.plain_mi.proofs.Coding.{is-first, not-first, none-left}
 
 -- free of faults is: the number of the first fault is 0
 module _ (reason : Reason) (bad : ℕ → Bool) where
@@ -28,7 +28,7 @@ module _ (reason : Reason) (bad : ℕ → Bool) where
   free-is k zero = sym (eq-eqb _ _ (none-left reason bad k))
   free-is k (suc n) =
       ⊎-elim
-      (λ p. rw p (sym (ne-eqb _ _ (λ z. let q = sym (is-first reason bad k n p) ∙ z in omega (arith, some-number reason)))))
+      (λ p. rw p (sym (ne-eqb _ _ (λ z. let q = sym (is-first reason bad k n p) ∙ z in omega (arith, above-zero reason)))))
       (λ p. rw p (free-is (k + 1) n ∙ ap (λ (i : ℕ). eqb i 0) (sym (not-first reason bad k n p)))) (either (bad k))
 
   pub free-coded : (k n : ℕ) → freeFrom bad k n ≡ true → firstCoded reason bad k n ≡ 0
@@ -58,11 +58,12 @@ module _ (w : Windows) (r : ℕ) (d : List ℕ) where
 
   -- a row with no address
   pub no-ranges : accessOf r ≡ noUse → (k n : ℕ) → freeFrom (rangeWrong w r d) k n ≡ true
-  unfolding freeFrom accessAt rangeWrong
-  no-ranges e k zero = refl
-  no-ranges e k (suc n) =
-      ap (λ (f : Uses). not (accessWrong w (addressAt d k) (f d k (spot r k) (getD d k 0))) && freeFrom (rangeWrong w r d) (k + 1) n) e
-      ∙ no-ranges e (k + 1) n
+  unfolding freeFrom
+  no-ranges e k n = ap (λ (bad : ℕ → Bool). freeFrom bad k n) (no-range r e w d) ∙ never k n
+    where
+      never : (k n : ℕ) → freeFrom (λ (i : ℕ). false) k n ≡ true
+      never k zero = refl
+      never k (suc n) = never (k + 1) n
 
   module _ (k n : ℕ) where
     -- a bit is wrong, or a value, or else the ranges decide

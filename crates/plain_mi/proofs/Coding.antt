@@ -7,45 +7,20 @@ use mathlib.Core.Bool.{Bool, true, false}
 use Rattle.rules.specs.declared.Found.{Found}
 use Rattle.rules.specs.declared.Found.the-variants.{At, Nothing}
 use Rattle.rules.specs.declared.Reason.{Reason}
-use Rattle.rules.specs.declared.Reason.the-variants
 use Rattle.rules.specs.declared.Verdict.{Verdict}
 use Rattle.rules.specs.declared.Verdict.the-variants.{Pass, Fails}
 use Rattle.rules.specs.Words.{firstFrom}
 use Rattle.rules.specs.Refusals.{batchWindow, numberOf, refuseFound}
 use Rattle.rules.proofs.Searching.{search-passes, search-stops, none-found}
+use Rattle.rules.proofs.Unique.{above-zero}
 use Rattle.looks.specs.Looks.{orElse}
 use Rattle.plain_mi.specs.Plain.{coded, firstCoded}
-
--- every refusal has a number above 0
-pub some-number : (r : Reason) → 0 < numberOf r
-unfolding numberOf
-some-number the-variants.WrongCounts = omega arith
-some-number the-variants.AddressUnaligned = omega arith
-some-number the-variants.EndsTooHigh = omega arith
-some-number the-variants.WindowsShare = omega arith
-some-number the-variants.BudgetSpent = omega arith
-some-number the-variants.RanOff = omega arith
-some-number the-variants.UnknownHeader = omega arith
-some-number the-variants.WrongLength = omega arith
-some-number the-variants.PastTheWindow = omega arith
-some-number the-variants.BitNotAllowed = omega arith
-some-number the-variants.NestedStart = omega arith
-some-number the-variants.ValueBroken = omega arith
-some-number the-variants.RangeOutside = omega arith
-some-number the-variants.BaseNeverSet = omega arith
-some-number the-variants.StructureNowhere = omega arith
-some-number the-variants.StructureBit = omega arith
-some-number the-variants.StructureValue = omega arith
-some-number the-variants.RecordsFull = omega arith
-some-number the-variants.FileSize = omega arith
-some-number the-variants.FileDistance = omega arith
-some-number the-variants.BufferShort = omega arith
 
 -- 0 exactly where the verdict passes
 pub coded-passes : (v : Verdict) → coded v ≡ 0 → v ≡ Pass
 unfolding coded
 coded-passes Pass e = refl
-coded-passes (Fails f) e = absurd (let h = some-number (f .reason) in omega arith)
+coded-passes (Fails f) e = absurd (let h = above-zero (f .reason) in omega arith)
 
 -- the first of two verdicts where it is not 0, and else the second
 pub first-says : (u v : Verdict) → (coded u ≡ 0 → ⊥) → coded (orElse u v) ≡ coded u
@@ -55,6 +30,11 @@ first-says (Fails f) v n = refl
 
 pub second-says : (u v : Verdict) → coded u ≡ 0 → coded (orElse u v) ≡ coded v
 second-says u v e = ap (λ (u : Verdict). coded (orElse u v)) (coded-passes u e)
+
+-- a verdict behind which nothing is found
+pub alone : (v : Verdict) → coded v ≡ coded (orElse v Pass)
+alone Pass = refl
+alone (Fails f) = refl
 
 -- the first of the dwords from k on: it is the dword k, or it is looked for behind it
 module _ (reason : Reason) (bad : ℕ → Bool) where

@@ -24,7 +24,7 @@ spot-in size k i {j} s g h q =
     rw (ne-eqb j 0 (λ z. omega arith), e, mul-add-mod-self-right ((k - 1) / size) size i, mod-eq-of-lt h) (omega arith)
 
 -- "Free means any dword"
-any-dword : (x : ℕ) → x < 2 ^ 32 → allowed x 0xFFFFFFFF ≡ true
+pub any-dword : (x : ℕ) → x < 2 ^ 32 → allowed x 0xFFFFFFFF ≡ true
 unfolding allowed
 any-dword x h = eq-eqb _ _ (and-mask x 32 ∙ mod-eq-of-lt h)
 

@@ -1,14 +1,11 @@
--- Where a range of bytes has to lie, as the code asks it; and the dwords in which every bit is allowed.
+-- Where a range of bytes has to lie, as the code asks it.
 -- Assumes nothing.
-use Prim.Native.Nat.{ℕ, _^_, _<_}
-use native.Mathlib.Nat.{mod-eq-of-lt}
+use Prim.Native.Nat.{ℕ}
 use mathlib.Core.Path.{_≡_, sym, _∙_}
-use mathlib.Core.Bool.{Bool, true, or-false}
-use lib.Bits.{and-mask}
-use borrow.Author.Tests.{eq-eqb}
+use mathlib.Core.Bool.{Bool, or-false}
 use Rattle.rules.specs.declared.Windows.{Windows}
 use Rattle.rules.specs.declared.Within.the-variants.{BatchOnly, ScratchOnly, AnyWindow}
-use Rattle.rules.specs.Words.{some, allowed}
+use Rattle.rules.specs.Words.{some}
 use Rattle.rules.specs.Windows.{holds, windowsWithin, fits}
 
 -- what the code asks of one window, at the address that two dwords make
@@ -23,8 +20,3 @@ module _ (w : Windows) {address at : ℕ} (bytes : ℕ) {fit : Bool} (e : at ≡
 
   pub any-fits : fit ≡ fits w AnyWindow at bytes → fit ≡ fits w AnyWindow address bytes
   any-fits h = rw e at h
-
--- "Free means any dword"
-pub free-dword : (x : ℕ) → x < 2 ^ 32 → allowed x 0xFFFFFFFF ≡ true
-unfolding allowed
-free-dword x h = eq-eqb _ _ (and-mask x 32 ∙ mod-eq-of-lt h)

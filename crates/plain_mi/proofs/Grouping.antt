@@ -8,8 +8,9 @@ use mathlib.Core.Bool.{Bool, true, false}
 use mathlib.Core.Logic.{⊎-elim}
 use Rattle.rules.specs.declared.Reason.{Reason}
 use Rattle.rules.proofs.Searching.{either}
+use Rattle.rules.proofs.Unique.{above-zero}
 use Rattle.plain_mi.specs.Plain.{firstCoded, freeFrom}
-use Rattle.plain_mi.proofs.Coding.{some-number, is-first, not-first, none-left}
+use Rattle.plain_mi.proofs.Coding.{is-first, not-first, none-left}
 
 -- an answer about the n dwords from k on: what the first of them say, unless they pass
 pub record InOrder {A : Type 0} (pass : A) (said : ℕ → ℕ → A) : Type 0 where
@@ -31,7 +32,7 @@ module _ (reason : Reason) (bad : ℕ → Bool) where
       let q : k + 0 ≡ k = omega arith in
       rw (p, q)
   first-behind k (suc m) n e =
-      ⊎-elim (λ p. absurd (let q = sym (is-first reason bad k m p) ∙ e in omega (arith, some-number reason)))
+      ⊎-elim (λ p. absurd (let q = sym (is-first reason bad k m p) ∙ e in omega (arith, above-zero reason)))
       (λ p.
       ap (firstCoded reason bad k) (one-more m n)
       ∙ not-first reason bad k (m + n) p

@@ -1,15 +1,16 @@
--- Headers: what a row says of them, the header that is not the table's, and commands of one dword; of any row of its kind.
+-- A header in its row: the key that it is known by, the bits that it may have, and the header that is not the table's.
 -- Assumes nothing.
-use Prim.Native.Nat.{ℕ, zero, suc, _+_, _%_, _≤_, _<_}
+use Prim.Native.Nat.{ℕ, suc, _+_, _-_, _*_, _/_, _%_, _^_, _≤_, _<_}
 use native.Mathlib.Omega.{arith}
 use mathlib.Core.Path.{_≡_, refl, sym, ap, _∙_}
 use mathlib.Core.Bool.{Bool, true, false, cond, not}
 use mathlib.Core.List.{List, [], _∷_}
 use mathlib.Core.Logic.{⊎-elim}
-use lib.ListN.{length, getD}
-use lib.Bits.{bitAnd, and-le-r}
+use lib.ListN.{length, getD, take}
+use lib.Seq.{length-take-le, getD-take}
+use lib.Bits.{bitAnd, and-block, and-mask, and-self, and-le-r}
 use lib.Dec.{ltb, eqb}
-use borrow.Author.Tests.{eqb-true, eq-eqb, ne-eqb, ltb-true, ltb-false, not-false}
+use borrow.Author.Tests.{eqb-true, eq-eqb, ltb-true, ltb-false, not-false}
 use Rattle.rules.specs.declared.Windows.{Windows}
 use Rattle.rules.specs.declared.Level.{Level}
 use Rattle.rules.specs.Words.{field, cleared, allowed, inGroup}
@@ -20,8 +21,10 @@ use Rattle.rules.specs.Values.{noRule, ruleOf, valueWrong}
 use Rattle.rules.specs.Addresses.{rangeWrong}
 use Rattle.rules.specs.Step.{nested}
 use Rattle.rules.proofs.Searching.{either}
-use Rattle.plain_mi.specs.Plain.{wrongOf}
-use Rattle.plain_mi.proofs.Tests.{listed, tested, content, field-wrong, goes-past, whole, header-bit}
+use Rattle.plain_mi.specs.Plain.{wrongOf, otherHeader}
+use Rattle.plain_mi.proofs.Lengths.{field-is, exact-right, exact-long, length-says, past-says, content-says}
+use Rattle.plain_mi.proofs.Content.{header-says}
+use Rattle.plain_mi.proofs.Tests.{tested, content, whole}
 
 -- a header in a row has the row's key
 from-row : (key : ℕ) (rs : List Row) (i : ℕ) (x : Row) → rowFrom key rs ≡ i → i < length rs → key ≡ getD rs i x .key
@@ -53,92 +56,91 @@ module _ (r : ℕ) (d : List ℕ) where
   unfolding bitWrong allowedAt allowedOf masksOf inGroup
   header-bits = refl
 
-  -- a header in a row that keeps its mask lies between the row's key and the mask
-  pub header-between : r < rowCount → rowOf (getD d 0 0) ≡ r → bitWrong r d 0 ≡ false
-      → (theRow r .key ≤ getD d 0 0) × (getD d 0 0 ≤ headerMask (theRow r))
+  -- a header in a row that keeps its mask lies between the row's key and the mask; so one that cannot lie there has a wrong bit
+  pub not-between : r < rowCount → rowOf (getD d 0 0) ≡ r
+      → (bitWrong r d 0 ≡ false → theRow r .key ≤ getD d 0 0 → getD d 0 0 ≤ headerMask (theRow r) → ⊥)
+      → bitWrong r d 0 ≡ true
   unfolding rowOf theRow rows
-  header-between h q e =
+  not-between h q n =
+      ⊎-elim (λ b. b)
+      (λ b.
       let k : keyOf (getD d 0 0) ≡ theRow r .key = from-row (keyOf (getD d 0 0)) rows r _ q h in
-      (omega (arith, key-at-most (getD d 0 0)), within-mask _ _ (not-false _ (sym header-bits ∙ e)))
+      absurd (n b (omega (arith, key-at-most (getD d 0 0))) (within-mask _ _ (not-false _ (sym header-bits ∙ b)))))
+      (either (bitWrong r d 0))
 
   -- without free bits and a field it is the key
   pub other-key : r < rowCount → theRow r .total ≡ noField → theRow r .free ≡ 0 → rowOf (getD d 0 0) ≡ r
       → (getD d 0 0 ≡ theRow r .key → ⊥)
       → bitWrong r d 0 ≡ true
   other-key h t free q n =
-      ⊎-elim (λ b. b)
-      (λ b.
       let m : headerMask (theRow r) ≡ theRow r .key + 0 = rw (t, free) in
-      let i = header-between h q b in
-      absurd (n (omega (arith, i .0, i .1))))
-      (either (bitWrong r d 0))
+      not-between h q (λ b low high. n (omega arith))
 
-same-header : (rest : List ℕ) (n : ℕ) → 0 < n → getD (listed rest 0 n) 0 0 ≡ getD rest 0 0
-same-header rest zero h = absurd (omega arith)
-same-header rest (suc n) h = refl
+-- a key of which bits 7:0 are 0, and any field
+module _ (x m : ℕ) where
+  split : bitAnd x (256 * m + 0xFF) ≡ bitAnd (x / 256) m * 256 + x % 256
+  split =
+      let a : x ≡ x / 256 * 2 ^ 8 + x % 256 = omega arith in
+      let b : 256 * m + 0xFF ≡ m * 2 ^ 8 + 0xFF = omega arith in
+      ap (λ (i : ℕ). bitAnd i (256 * m + 0xFF)) a
+      ∙ ap (bitAnd (x / 256 * 2 ^ 8 + x % 256)) b
+      ∙ and-block 8 (x / 256) m (x % 256) 0xFF (omega arith) (omega arith)
+      ∙ ap (λ (i : ℕ). bitAnd (x / 256) m * 2 ^ 8 + i) (and-mask (x % 256) 8 ∙ (omega arith))
+
+  pub key-and-field : x - x % 256 ≡ 256 * m → allowed x (256 * m + 0xFF) ≡ true
+  unfolding allowed
+  key-and-field e =
+      let q : x / 256 ≡ m = omega arith in
+      let s : bitAnd (x / 256) m ≡ m = ap (λ (i : ℕ). bitAnd i m) q ∙ and-self m in
+      eq-eqb _ _ (split ∙ (omega arith))
+
+-- 10 of the header, once 8 and 9 pass
+pub bit-says-first : (w : Windows) (r : ℕ) (rest : List ℕ) (level : Level) → lengthRight r (getD rest 0 0) ≡ true → (n : ℕ)
+    → lengthOf r (getD rest 0 0) ≡ n → 0 < n → n ≤ length rest → bitWrong r rest 0 ≡ true → 2560 ≡ wrongOf w r rest level
+bit-says-first w r rest level right n long some h e =
+    let own : getD (take n rest) 0 0 ≡ getD rest 0 0 = getD-take n rest 0 0 some in
+    let bit = header-bits r (take n rest)
+    ∙ ap (λ (x : ℕ). not (allowed x (headerMask (theRow r)))) own
+    ∙ sym (header-bits r rest)
+    ∙ e in
+    sym (header-says w r (take n rest) level (omega (arith, length-take-le n rest h)) bit)
+    ∙ content-says w r rest level right long h
 
 -- the header is not the table's: its field is wrong, or the command goes past the window, or it has a bit that is not allowed
 module _ (w : Windows) (r : ℕ) (rest : List ℕ) (level : Level) (f : ℕ)
     (right : lengthRight r (getD rest 0 0) ≡ eqb (field (getD rest 0 0) 7 0) f)
     (long : lengthOf r (getD rest 0 0) ≡ field (getD rest 0 0) 7 0 + 2)
     (bit : getD rest 0 0 % 256 ≡ f → bitWrong r rest 0 ≡ true) where
-  own-field : field (getD rest 0 0) 7 0 ≡ getD rest 0 0 % 256
-  own-field = omega arith
-
   past-or-bit : getD rest 0 0 % 256 ≡ f → cond (ltb (length rest) (f + 2)) 2304 2560 ≡ wrongOf w r rest level
-  unfolding bitWrong allowedAt allowedOf
   past-or-bit e = by (ltb (length rest) (f + 2)) refl
     where
       known : lengthRight r (getD rest 0 0) ≡ true
-      known = right ∙ eq-eqb _ _ (own-field ∙ e)
+      known = right ∙ eq-eqb _ _ (field-is _ ∙ e)
 
       counted : lengthOf r (getD rest 0 0) ≡ f + 2
-      counted = long ∙ ap (λ (n : ℕ). n + 2) (own-field ∙ e)
+      counted = long ∙ ap (λ (n : ℕ). n + 2) (field-is _ ∙ e)
 
       by : (b : Bool) → ltb (length rest) (f + 2) ≡ b → cond b 2304 2560 ≡ wrongOf w r rest level
-      by true t = goes-past w r level rest known (f + 2) counted (ltb-true _ _ t)
-      by false t =
-          header-bit w r (listed rest 0 (f + 2)) level (f + 2) (omega arith)
-          (ap (λ (x : ℕ). not (allowed x (allowedAt r rest 0))) (same-header rest (f + 2) (omega arith)) ∙ bit e)
-          ∙ sym (whole w r level rest known (f + 2) counted (ltb-false _ _ t))
+      by true t = past-says w r rest level known counted (ltb-true _ _ t)
+      by false t = bit-says-first w r rest level known (f + 2) counted (omega arith) (ltb-false _ _ t) (bit e)
 
-  pub other : cond (eqb (getD rest 0 0 % 256) f) (cond (ltb (length rest) (f + 2)) 2304 2560) 2048 ≡ wrongOf w r rest level
+  pub other : otherHeader rest f ≡ wrongOf w r rest level
   other = by (eqb (getD rest 0 0 % 256) f) refl
     where
       by : (b : Bool) → eqb (getD rest 0 0 % 256) f ≡ b
           → cond b (cond (ltb (length rest) (f + 2)) 2304 2560) 2048 ≡ wrongOf w r rest level
       by true t = past-or-bit (eqb-true _ _ t)
-      by false t = field-wrong w r level rest (right ∙ ap (λ (x : ℕ). eqb x f) own-field ∙ t)
+      by false t = length-says w r rest level (right ∙ ap (λ (x : ℕ). eqb x f) (field-is _) ∙ t)
 
--- a row with one length, by the field of its header
-module _ (r f header : ℕ) (t : theRow r .total ≡ exactly f) where
-  pub exact-wrong : (header % 256 ≡ f → ⊥) → lengthRight r header ≡ false
-  unfolding lengthRight
-  exact-wrong n = rw t (ne-eqb (field header 7 0) f (λ e. n (omega arith)))
-
-  pub exact-right : header % 256 ≡ f → lengthRight r header ≡ true
-  unfolding lengthRight
-  exact-right e = rw t (eq-eqb (field header 7 0) f (omega arith))
-
-  pub exact-long : header % 256 ≡ f → lengthOf r header ≡ f + 2
-  unfolding lengthOf
-  exact-long e = rw t (omega arith)
-
--- the same with no free bits, of a header that is not the table's
+-- of a row with one length: no header between its key and its mask has its field, but the table's
 pub other-exact : (w : Windows) (r : ℕ) (rest : List ℕ) (level : Level) (f : ℕ) → r < rowCount → theRow r .total ≡ exactly f
-    → theRow r .free ≡ 0
-    → theRow r .key % 256 ≡ 0 → rowOf (getD rest 0 0) ≡ r → (getD rest 0 0 ≡ theRow r .key + f → ⊥)
-    → cond (eqb (getD rest 0 0 % 256) f) (cond (ltb (length rest) (f + 2)) 2304 2560) 2048 ≡ wrongOf w r rest level
+    → rowOf (getD rest 0 0) ≡ r
+    → (getD rest 0 0 % 256 ≡ f → theRow r .key ≤ getD rest 0 0 → getD rest 0 0 ≤ theRow r .key + (theRow r .free + 255) → ⊥)
+    → otherHeader rest f ≡ wrongOf w r rest level
 unfolding lengthRight lengthOf
-other-exact w r rest level f known t free key q n =
-    other w r rest level f (rw t) (rw t)
-    (λ e.
-    ⊎-elim (λ b. b)
-    (λ b.
-    let m : headerMask (theRow r) ≡ theRow r .key + 255 = rw (t, free) in
-    let i = header-between r rest known q b in
-    absurd (n (omega (arith, i .0, i .1))))
-    (either (bitWrong r rest 0)))
+other-exact w r rest level f known t q n =
+    let m : headerMask (theRow r) ≡ theRow r .key + (theRow r .free + 255) = rw t in
+    other w r rest level f (rw t) (rw t) (λ e. not-between r rest known q (λ b low high. n e low (omega arith)))
 
 -- a command of one dword, of a row that has neither a rule nor an address: its header alone decides
 pub one-dword : (w : Windows) (r : ℕ) (rest : List ℕ) (level : Level) → theRow r .total ≡ noField → ruleOf r ≡ noRule
@@ -146,4 +148,4 @@ pub one-dword : (w : Windows) (r : ℕ) (rest : List ℕ) (level : Level) → th
     → nested r level ≡ false → 0 < length rest → wrongOf w r rest level ≡ cond (bitWrong r rest 0) 2560 0
 unfolding lengthRight lengthOf content tested bitWrong allowedAt allowedOf valueWrong accessAt rangeWrong
 one-dword w r (x ∷ rest) level t rule uses up h =
-    whole w r level (x ∷ rest) (rw t) 1 (rw t) h ∙ rw (up, rule, uses)
+    whole w r (x ∷ rest) level (rw t) 1 (rw t) h ∙ rw (up, rule, uses)

@@ -17,18 +17,18 @@ use Rattle.rules.specs.Values.{valueRules, ruleOf, valueWrong}
 use Rattle.rules.specs.Addresses.{rangeWrong}
 use Rattle.rules.specs.Step.{nested}
 use Rattle.plain_mi.specs.Plain.{wrongOf}
-use Rattle.plain_mi.proofs.Tests.{tested, content, field-wrong, goes-past, whole}
-use Rattle.plain_mi.proofs.Headers.{exact-wrong, exact-right, exact-long}
+use Rattle.plain_mi.proofs.Tests.{tested, content, whole}
+use Rattle.plain_mi.proofs.Lengths.{exact-wrong, exact-right, exact-long, length-says, past-says}
 
 module _ (w : Windows) (rest : List ℕ) (level : Level) where
   pub start-field : (getD rest 0 0 % 256 ≡ 1 → ⊥) → 2048 ≡ wrongOf w 2 rest level
   unfolding rows theRow
-  start-field n = field-wrong w 2 level rest (exact-wrong 2 1 _ refl n)
+  start-field n = length-says w 2 rest level (exact-wrong 2 1 refl _ n)
 
   module _ (e : getD rest 0 0 % 256 ≡ 1) where
     pub start-past : length rest < 3 → 2304 ≡ wrongOf w 2 rest level
     unfolding rows theRow
-    start-past h = goes-past w 2 level rest (exact-right 2 1 _ refl e) 3 (exact-long 2 1 _ refl e) h
+    start-past h = past-says w 2 rest level (exact-right 2 1 refl _ e) (exact-long 2 1 refl _ e) h
 
     pub start-tested : 3 ≤ length rest → wrongOf w 2 rest level
         ≡ cond (not (allowed (getD rest 0 0) 0x18C001FF)) 2560
@@ -39,4 +39,4 @@ module _ (w : Windows) (rest : List ℕ) (level : Level) where
         (cond (not (fits w BatchOnly (getD rest 1 0 + 2 ^ 32 * getD rest 2 0) 4)) 3329 0)))))
     unfolding rows theRow groupSize inGroup content tested bitWrong allowedAt allowedOf masksOf
         valueRules ruleOf valueWrong usesByRow accessOf accessAt rangeWrong addressAt
-    start-tested h = whole w 2 level rest (exact-right 2 1 _ refl e) 3 (exact-long 2 1 _ refl e) h
+    start-tested h = whole w 2 rest level (exact-right 2 1 refl _ e) 3 (exact-long 2 1 refl _ e) h

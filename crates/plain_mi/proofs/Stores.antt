@@ -5,10 +5,9 @@ use native.Mathlib.Omega.{arith}
 use mathlib.Core.Path.{_≡_, refl, sym, ap, _∙_}
 use mathlib.Core.Bool.{Bool, true, false, cond, not}
 use mathlib.Core.List.{List}
-use mathlib.Core.Logic.{⊎-elim}
-use lib.ListN.{length, getD}
+use lib.ListN.{getD}
 use lib.Bits.{bitAnd, and-mod, and-le-r}
-use lib.Dec.{ltb, eqb, lit≤}
+use lib.Dec.{eqb, lit≤}
 use borrow.Author.Tests.{eqb-true, eqb-false, not-false}
 use Rattle.rules.specs.declared.Windows.{Windows}
 use Rattle.rules.specs.declared.Within.the-variants.{ScratchOnly}
@@ -22,11 +21,10 @@ use Rattle.rules.specs.Uses.{usesByRow, accessOf, accessAt, addressAt}
 use Rattle.rules.specs.Masks.{masksOf, allowedOf, allowedAt, bitWrong}
 use Rattle.rules.specs.Values.{valueRules, ruleOf, valueWrong}
 use Rattle.rules.specs.Addresses.{rangeWrong}
-use Rattle.rules.proofs.Searching.{either}
-use Rattle.plain_mi.specs.Plain.{firstCoded, wrongOf}
+use Rattle.plain_mi.specs.Plain.{firstCoded, wrongOf, otherHeader}
 use Rattle.plain_mi.proofs.Tests.{tested, content, searched-last, passed, stopped, Own}
-use Rattle.plain_mi.proofs.Headers.{header-bits, header-between, other}
-use Rattle.plain_mi.proofs.Fitting.{free-dword}
+use Rattle.plain_mi.proofs.Headers.{header-bits, not-between, other}
+use Rattle.plain_mi.proofs.Dwords.{any-dword}
 
 -- a header in this row that keeps its mask and whose field is right is one of the two
 kept : (h : ℕ) → bitAnd h 0x102000FF ≡ h → h % 2 ^ 21 ≤ 255
@@ -45,17 +43,14 @@ small-field false e = omega arith
 pub other-store : (w : Windows) (rest : List ℕ) → rowOf (getD rest 0 0) ≡ 4 → (getD rest 0 0 ≡ 0x10000002 → ⊥)
     → (getD rest 0 0 ≡ 0x10200003 → ⊥)
     → (f : ℕ) → f ≡ cond (bit (getD rest 0 0) 21) 3 2
-    → cond (eqb (getD rest 0 0 % 256) f) (cond (ltb (length rest) (f + 2)) 2304 2560) 2048 ≡ wrongOf w 4 rest First
+    → otherHeader rest f ≡ wrongOf w 4 rest First
 unfolding rows theRow lengthRight lengthOf allowed
 other-store w rest q n m f t =
     other w 4 rest First f (ap (eqb (getD rest 0 0 / 1 % 256)) (sym t)) refl
-    (λ e.
-    ⊎-elim (λ b. b)
-    (λ b.
-    let i = header-between 4 rest (lit≤ tt) q b in
+    (λ e. not-between 4 rest (lit≤ tt) q
+    (λ b low high.
     let k = kept (getD rest 0 0) (eqb-true _ _ (not-false _ (sym (header-bits 4 rest) ∙ b))) in
-    absurd (two-headers (getD rest 0 0) (bit (getD rest 0 0) 21) refl (i .0) (i .1) k (e ∙ t) n m))
-    (either (bitWrong 4 rest 0)))
+    two-headers (getD rest 0 0) (bit (getD rest 0 0) 21) refl low high k (e ∙ t) n m))
 
 -- 10 of either store, as the code asks it
 bits-of : (d : List ℕ) → firstCoded BitNotAllowed (bitWrong 4 d) 1 2 ≡ tested 10 (bitWrong 4 d) 1 2 0
@@ -82,11 +77,11 @@ module _ (w : Windows) (rest : List ℕ) where
       (cond (not (fits w ScratchOnly (getD rest 1 0 + 2 ^ 32 * getD rest 2 0) 4)) 3329 0))
   unfolding content tested bitWrong allowed allowedAt allowedOf masksOf rows theRow groupSize inGroup
       valueRules ruleOf valueWrong lengthRight lengthOf usesByRow accessOf accessAt rangeWrong addressAt
-  four-bytes e third = record { right = rw e; long = rw e; same = rw (e, free-dword _ third) }
+  four-bytes e third = record { right = rw e; long = rw e; same = rw (e, any-dword _ third) }
 
   pub eight-bytes : getD rest 0 0 ≡ 0x10200003 → getD rest 3 0 < 2 ^ 32 → getD rest 4 0 < 2 ^ 32
       → Own w 4 rest First 5 (tested 10 (bitWrong 4 rest) 1 2 (cond (not (eqb (getD rest 1 0 % 8) 0)) 3073
       (cond (not (fits w ScratchOnly (getD rest 1 0 + 2 ^ 32 * getD rest 2 0) 8)) 3329 0)))
   unfolding content tested bitWrong allowed allowedAt allowedOf masksOf rows theRow groupSize inGroup
       valueRules ruleOf valueWrong lengthRight lengthOf usesByRow accessOf accessAt rangeWrong addressAt
-  eight-bytes e third fourth = record { right = rw e; long = rw e; same = rw (e, free-dword _ third, free-dword _ fourth) }
+  eight-bytes e third fourth = record { right = rw e; long = rw e; same = rw (e, any-dword _ third, any-dword _ fourth) }

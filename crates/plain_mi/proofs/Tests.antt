@@ -1,24 +1,18 @@
--- An answer of the plain engine as tests, one behind another, each with the number that it gives: the form that early returns
--- have.
+-- An answer of the plain engine as tests, one behind another, each with the number that it gives: the form that early returns have.
 -- Assumes nothing.
 use Prim.Native.Nat.{ℕ, zero, suc, _+_, _*_, _≤_, _<_}
 use native.Mathlib.Omega.{arith}
-use native.Mathlib.Numerals.{add-one}
 use mathlib.Core.Path.{_≡_, refl, sym, ap, _∙_}
 use mathlib.Core.Bool.{Bool, true, false, cond, not}
-use mathlib.Core.List.{List, [], _∷_}
-use lib.ListN.{length, getD, take}
-use lib.Seq.{length-take-le}
-use lib.Dec.{ltb}
-use borrow.Author.Tests.{lt-ltb, le-ltb}
+use mathlib.Core.List.{List}
+use lib.ListN.{length, getD}
 use Rattle.rules.specs.declared.Windows.{Windows}
 use Rattle.rules.specs.declared.Level.{Level}
 use Rattle.rules.specs.declared.Fault.{Fault}
 use Rattle.rules.specs.declared.Verdict.{Verdict}
-use Rattle.rules.specs.declared.Verdict.the-variants.{Pass, Fails}
+use Rattle.rules.specs.declared.Verdict.the-variants.{Pass}
 use Rattle.rules.specs.declared.Reason.{Reason}
-use Rattle.rules.specs.declared.Reason.the-variants.{WrongLength, PastTheWindow, BitNotAllowed, NestedStart}
-use Rattle.rules.specs.declared.Reason.the-variants.{ValueBroken, RangeOutside}
+use Rattle.rules.specs.declared.Reason.the-variants.{BitNotAllowed, NestedStart, ValueBroken, RangeOutside}
 use Rattle.rules.specs.declared.Found.the-variants.{At}
 use Rattle.rules.specs.Words.{firstFrom}
 use Rattle.rules.specs.Refusals.{batchWindow, numberOf, fault, refuseIf, refuseFound}
@@ -29,22 +23,8 @@ use Rattle.rules.specs.Addresses.{rangeWrong}
 use Rattle.rules.specs.Step.{nested}
 use Rattle.looks.specs.Looks.{orElse, contentOf}
 use Rattle.plain_mi.specs.Plain.{coded, wrongOf}
-
--- the n dwords from k on, one by one
-abbrev pub listed : List ℕ → ℕ → ℕ → List ℕ
-listed rest k zero = []
-listed rest k (suc n) = getD rest k 0 ∷ listed rest (k + 1) n
-
-listed-behind : (x : ℕ) (rest : List ℕ) (k n : ℕ) → listed rest k n ≡ listed (x ∷ rest) (k + 1) n
-listed-behind x rest k zero = refl
-listed-behind x rest k (suc n) =
-    ap (λ (l : List ℕ). getD rest k 0 ∷ l) (listed-behind x rest (k + 1) n)
-    ∙ ap (λ (i : ℕ). getD (x ∷ rest) i 0 ∷ listed (x ∷ rest) (k + 1 + 1) n) (sym (add-one k))
-
-front : (n : ℕ) (rest : List ℕ) → n ≤ length rest → take n rest ≡ listed rest 0 n
-front zero rest h = refl
-front (suc n) [] h = absurd (omega arith)
-front (suc n) (x ∷ rest) h = ap (λ (l : List ℕ). x ∷ l) (front n rest (omega arith) ∙ listed-behind x rest 0 n)
+use Rattle.plain_mi.proofs.Coding.{alone}
+use Rattle.plain_mi.proofs.Lengths.{listed, as-many, past-says, listed-says}
 
 -- the n dwords from k on, tested in turn: the first that the test finds, under this number; behind them, the answer `later`
 unfoldable pub tested : ℕ → (ℕ → Bool) → ℕ → ℕ → ℕ → ℕ
@@ -52,7 +32,7 @@ tested number bad k zero later = later
 tested number bad k (suc n) later = cond (bad k) (256 * number + k) (tested number bad (k + 1) n later)
 
 -- one verdict before another: a refusal with one place, and one whose place is searched
-pub one-place : (b : Bool) (f : Fault) (v : Verdict)
+one-place : (b : Bool) (f : Fault) (v : Verdict)
     → coded (orElse (refuseIf b f) v) ≡ cond b (256 * numberOf (f .reason) + f .index) (coded v)
 unfolding coded
 one-place true f v = refl
@@ -74,12 +54,7 @@ searched reason bad k (suc n) v = by (bad k) (searched reason bad (k + 1) n v)
 pub searched-last : (reason : Reason) (bad : ℕ → Bool) (k n : ℕ)
     → coded (refuseFound reason batchWindow 0 (firstFrom bad k n)) ≡ tested (numberOf reason) bad k n 0
 unfolding coded
-searched-last reason bad k n =
-    ap coded (alone (refuseFound reason batchWindow 0 (firstFrom bad k n))) ∙ searched reason bad k n Pass
-  where
-    alone : (v : Verdict) → v ≡ orElse v Pass
-    alone Pass = refl
-    alone (Fails f) = refl
+searched-last reason bad k n = alone (refuseFound reason batchWindow 0 (firstFrom bad k n)) ∙ searched reason bad k n Pass
 
 -- 10 to 13 of n dwords, in turn
 unfoldable pub content : Windows → ℕ → List ℕ → Level → ℕ → ℕ
@@ -87,42 +62,23 @@ content w r d level n =
     tested 10 (bitWrong r d) 0 n
     (cond (nested r level) (256 * 11) (tested 12 (valueWrong r d) 0 n (tested 13 (rangeWrong w r d) 0 n 0)))
 
-module _ (w : Windows) (r : ℕ) (level : Level) where
-  content-tested : (d : List ℕ) → coded (contentOf w r d 0 level) ≡ content w r d level (length d)
-  unfolding contentOf content numberOf
-  content-tested d =
-      searched BitNotAllowed (bitWrong r d) 0 (length d) _
-      ∙ ap (tested 10 (bitWrong r d) 0 (length d))
-      (one-place (nested r level) (fault NestedStart batchWindow 0) _
-      ∙ ap (cond (nested r level) (256 * 11))
-      (searched ValueBroken (valueWrong r d) 0 (length d) _
-      ∙ ap (tested 12 (valueWrong r d) 0 (length d)) (searched-last RangeOutside (rangeWrong w r d) 0 (length d))))
+content-tested : (w : Windows) (r : ℕ) (d : List ℕ) (level : Level) → coded (contentOf w r d 0 level) ≡ content w r d level (length d)
+unfolding contentOf content numberOf
+content-tested w r d level =
+    searched BitNotAllowed (bitWrong r d) 0 (length d) _
+    ∙ ap (tested 10 (bitWrong r d) 0 (length d))
+    (one-place (nested r level) (fault NestedStart batchWindow 0) _
+    ∙ ap (cond (nested r level) (256 * 11))
+    (searched ValueBroken (valueWrong r d) 0 (length d) _
+    ∙ ap (tested 12 (valueWrong r d) 0 (length d)) (searched-last RangeOutside (rangeWrong w r d) 0 (length d))))
 
-  -- the whole answer
-  pub wrong-tested : (rest : List ℕ) → wrongOf w r rest level
-      ≡ cond (not (lengthRight r (getD rest 0 0))) (256 * 8) (cond (ltb (length rest) (lengthOf r (getD rest 0 0))) (256 * 9)
-      (coded (contentOf w r (take (lengthOf r (getD rest 0 0)) rest) 0 level)))
-  unfolding wrongOf numberOf
-  wrong-tested rest =
-      one-place (not (lengthRight r (getD rest 0 0))) (fault WrongLength batchWindow 0) _
-      ∙ ap (cond (not (lengthRight r (getD rest 0 0))) (256 * 8))
-      (one-place (ltb (length rest) (lengthOf r (getD rest 0 0))) (fault PastTheWindow batchWindow 0) _)
-
-  -- 8, 9, and the rest of it
-  module _ (rest : List ℕ) where
-    pub field-wrong : lengthRight r (getD rest 0 0) ≡ false → 256 * 8 ≡ wrongOf w r rest level
-    field-wrong e = sym (wrong-tested rest ∙ rw e)
-
-    module _ (right : lengthRight r (getD rest 0 0) ≡ true) (n : ℕ) (long : lengthOf r (getD rest 0 0) ≡ n) where
-      pub goes-past : length rest < n → 256 * 9 ≡ wrongOf w r rest level
-      goes-past h = sym (wrong-tested rest ∙ rw (right, long, lt-ltb _ _ h))
-
-      pub whole : n ≤ length rest → wrongOf w r rest level ≡ content w r (listed rest 0 n) level n
-      whole h =
-          wrong-tested rest ∙ rw (right, long, le-ltb _ _ h)
-          (content-tested (take n rest)
-          ∙ ap (content w r (take n rest) level) (length-take-le n rest h)
-          ∙ ap (λ (d : List ℕ). content w r d level n) (front n rest h))
+-- the answer, once 8 and 9 pass
+pub whole : (w : Windows) (r : ℕ) (rest : List ℕ) (level : Level) → lengthRight r (getD rest 0 0) ≡ true → (n : ℕ)
+    → lengthOf r (getD rest 0 0) ≡ n → n ≤ length rest → wrongOf w r rest level ≡ content w r (listed rest 0 n) level n
+whole w r rest level right n long h =
+    sym (listed-says w r rest level right long h)
+    ∙ content-tested w r (listed rest 0 n) level
+    ∙ ap (content w r (listed rest 0 n) level) (as-many rest 0 n)
 
 -- a command whose header is right: it has n dwords, and its tests give this answer
 pub record Own (w : Windows) (r : ℕ) (rest : List ℕ) (level : Level) (n answer : ℕ) : Type 0 where
@@ -132,10 +88,10 @@ pub record Own (w : Windows) (r : ℕ) (rest : List ℕ) (level : Level) (n answ
 
 module _ {w : Windows} {r : ℕ} {rest : List ℕ} {level : Level} {n answer : ℕ} (own : Own w r rest level n answer) where
   pub own-past : length rest < n → 256 * 9 ≡ wrongOf w r rest level
-  own-past h = goes-past w r level rest (own .right) n (own .long) h
+  own-past h = past-says w r rest level (own .right) (own .long) h
 
   pub own-answer : n ≤ length rest → answer ≡ wrongOf w r rest level
-  own-answer h = sym (whole w r level rest (own .right) n (own .long) h ∙ own .same)
+  own-answer h = sym (whole w r rest level (own .right) n (own .long) h ∙ own .same)
 
 -- what a call says of a test, where the code asks its negation
 pub asked : {result test taken : Bool} → result ≡ test → not result ≡ taken → not test ≡ taken
@@ -144,13 +100,6 @@ asked e f = ap not (sym e) ∙ f
 -- one test with its answer, where it is known how it goes
 pub answers : (n later : ℕ) {test taken : Bool} → test ≡ taken → cond taken n later ≡ cond test n later
 answers n later e = ap (λ (t : Bool). cond t n later) (sym e)
-
--- the first of the tests finds the header, or passes it
-pub header-bit : (w : Windows) (r : ℕ) (d : List ℕ) (level : Level) (n : ℕ) → 0 < n → bitWrong r d 0 ≡ true
-    → 256 * 10 ≡ content w r d level n
-unfolding content tested
-header-bit w r d level zero h e = absurd (omega arith)
-header-bit w r d level (suc n) h e = rw e
 
 -- tests behind which one answer stands, and then another: all pass, or one of them stops at the same number
 module _ (number : ℕ) (some : 0 < number) (bad : ℕ → Bool) where
