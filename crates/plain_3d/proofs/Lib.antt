@@ -1,5 +1,4 @@
-pub mod Headers
-pub mod OneLength
+pub mod BitsOnly
 pub mod FormatWords
 pub mod Controls
 pub mod BufferRanges

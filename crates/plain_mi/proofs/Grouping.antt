@@ -18,6 +18,14 @@ pub record InOrder {A : Type 0} (pass : A) (said : ℕ → ℕ → A) : Type 0 w
   pub behind : (k m n : ℕ) → said k m ≡ pass → said k (m + n) ≡ said (k + m) n
   pub ahead : (k m n : ℕ) → (said k m ≡ pass → ⊥) → said k (m + n) ≡ said k m
 
+-- such an answer, of dwords and of those behind them, from the answers of the two parts
+module _ {A : Type 0} {pass : A} {said : ℕ → ℕ → A} (o : InOrder pass said) (k m n : ℕ) {x : A} (e : x ≡ said k m) where
+  pub former-says : (x ≡ pass → ⊥) → x ≡ said k (m + n)
+  former-says stops = e ∙ sym (o .ahead k m n (λ z. stops (e ∙ z)))
+
+  pub latter-says : x ≡ pass → {y : A} → y ≡ said (k + m) n → y ≡ said k (m + n)
+  latter-says z f = f ∙ sym (o .behind k m n (sym e ∙ z))
+
 one-more : (m n : ℕ) → suc m + n ≡ suc (m + n)
 one-more m n = omega arith
 

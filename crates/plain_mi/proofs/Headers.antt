@@ -22,7 +22,7 @@ use Rattle.rules.specs.Addresses.{rangeWrong}
 use Rattle.rules.specs.Step.{nested}
 use Rattle.rules.proofs.Searching.{either}
 use Rattle.plain_mi.specs.Plain.{wrongOf, otherHeader}
-use Rattle.plain_mi.proofs.Lengths.{field-is, exact-right, exact-long, length-says, past-says, content-says}
+use Rattle.plain_mi.proofs.Lengths.{field-is, length-says, past-says, content-says}
 use Rattle.plain_mi.proofs.Content.{header-says}
 use Rattle.plain_mi.proofs.Tests.{tested, content, whole}
 

@@ -96,3 +96,11 @@ module _ (w : Windows) (r : ℕ) (rest : List ℕ) (level : Level) where
     -- with the dwords one by one: of a row and a number that are known, it computes
     pub listed-says : n ≤ length rest → coded (contentOf w r (listed rest 0 n) 0 level) ≡ wrongOf w r rest level
     listed-says h = ap (λ (d : List ℕ). coded (contentOf w r d 0 level)) (sym (front n rest h)) ∙ content-says h
+
+-- 9, and what is left, of a row of one length whose field is right
+module _ (r f : ℕ) (t : theRow r .total ≡ exactly f) (w : Windows) (rest : List ℕ) (level : Level) (e : getD rest 0 0 % 256 ≡ f) where
+  pub exact-past : length rest < f + 2 → 2304 ≡ wrongOf w r rest level
+  exact-past h = past-says w r rest level (exact-right r f t _ e) (exact-long r f t _ e) h
+
+  pub exact-says : f + 2 ≤ length rest → {x : ℕ} → x ≡ coded (contentOf w r (listed rest 0 (f + 2)) 0 level) → x ≡ wrongOf w r rest level
+  exact-says h q = q ∙ listed-says w r rest level (exact-right r f t _ e) (exact-long r f t _ e) h

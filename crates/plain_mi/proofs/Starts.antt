@@ -18,7 +18,7 @@ use Rattle.rules.specs.Addresses.{rangeWrong}
 use Rattle.rules.specs.Step.{nested}
 use Rattle.plain_mi.specs.Plain.{wrongOf}
 use Rattle.plain_mi.proofs.Tests.{tested, content, whole}
-use Rattle.plain_mi.proofs.Lengths.{exact-wrong, exact-right, exact-long, length-says, past-says}
+use Rattle.plain_mi.proofs.Lengths.{exact-wrong, exact-right, exact-long, exact-past, length-says}
 
 module _ (w : Windows) (rest : List ℕ) (level : Level) where
   pub start-field : (getD rest 0 0 % 256 ≡ 1 → ⊥) → 2048 ≡ wrongOf w 2 rest level
@@ -28,7 +28,7 @@ module _ (w : Windows) (rest : List ℕ) (level : Level) where
   module _ (e : getD rest 0 0 % 256 ≡ 1) where
     pub start-past : length rest < 3 → 2304 ≡ wrongOf w 2 rest level
     unfolding rows theRow
-    start-past h = past-says w 2 rest level (exact-right 2 1 refl _ e) (exact-long 2 1 refl _ e) h
+    start-past h = exact-past 2 1 refl w rest level e h
 
     pub start-tested : 3 ≤ length rest → wrongOf w 2 rest level
         ≡ cond (not (allowed (getD rest 0 0) 0x18C001FF)) 2560

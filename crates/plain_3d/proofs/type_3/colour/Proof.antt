@@ -3,51 +3,54 @@
 use Prim.Native.Nat.{ℕ}
 use native.Mathlib.Omega.{arith}
 use mathlib.Core.Path.{_≡_, refl, _∙_}
-use mathlib.Core.Bool.{true}
-use lib.Dec.{lit<, lit≤}
+use mathlib.Core.Bool.{true, false}
+use lib.Dec.{lit≤}
 use borrow.Author.Needs.{needs}
+use Rattle.rules.specs.declared.Level.the-variants.{First}
 use Rattle.rules.specs.Words.{allowed}
-use Rattle.rules.specs.Commands.{rows, theRow}
+use Rattle.rules.specs.Commands.{exactly, rows, theRow}
 use Rattle.rules.specs.Uses.{usesByRow, accessOf}
 use Rattle.rules.specs.Values.{valueRules, ruleOf}
-use Rattle.plain_3d.proofs.OneLength.{OneLength, fails, passes, other, past-end, dword-stray, dword-kept}
+use Rattle.plain_mi.proofs.Headers.{other-exact}
+use Rattle.plain_mi.proofs.Lengths.{exact-past}
+use Rattle.plain_mi.proofs.Tests.{asked}
+use Rattle.plain_3d.proofs.BitsOnly.{dword-decides}
 use Rattle.plain_3d.proofs.type_3.colour.Statement.{statement}
 use Rattle.plain_3d.proofs.type_3.colour.Tie as tie
 
-row : OneLength 15 0 0x780E0000 0xFF
+row : theRow 15 .total ≡ exactly 0
 unfolding rows theRow
-row = record { known = lit< tt; total = refl; header = refl; type = lit≤ tt; bits = refl }
+row = refl
 
 kept : (header : ℕ) → header ≡ 0x780E0000 → allowed header 0x780E00FF ≡ true
 unfolding allowed
 kept header e = rw e
 
 other-header : tie.Need-returns
+unfolding rows theRow
 other-header c =
-    let read = c .before .before in
-    let start = read .before .before in
-    other row _ _ _ (omega (arith, read .before .shared-slice-known .given 0)) (start .pre .1) (c .before .if1 .taken)
-    (c .other-header .ensures)
+    let start = c .before .before .before .before in
+    c .other-header .ensures ∙ other-exact _ 15 _ First 0 (lit≤ tt) row (start .pre .1) (λ e low high. c .before .if1 .taken (omega arith))
 
 past : tie.Need-returns-2
-past c = c .at .ensures ∙ past-end row _ _ _ (omega arith) (c .before .if2 .taken)
+past c = c .at .ensures ∙ exact-past 15 0 row _ _ _ (omega arith) (c .before .if2 .taken)
 
 bit : tie.Need-returns-3
 unfolding rows theRow valueRules ruleOf usesByRow accessOf
 bit c =
-    let asked = c .before .before in
-    let whole = asked .before .before in
+    let called = c .before .before in
+    let whole = called .before .before in
     c .at2 .ensures
-    ∙ dword-stray row refl refl 0xFFFFFFC1 refl _ _ (omega arith) (whole .if2 .left) (kept _ (whole .before .if1 .left))
-    (fails (asked .allowed .ensures) (c .before .if3 .taken))
+    ∙ dword-decides 15 row refl refl 0xFFFFFFC1 refl _ _ (omega arith) (whole .if2 .left) (kept _ (whole .before .if1 .left)) true
+    (asked (called .allowed .ensures) (c .before .if3 .taken))
 
 nothing : tie.Need-returns-4
 unfolding rows theRow valueRules ruleOf usesByRow accessOf
 nothing c =
-    let asked = c .before in
-    let whole = asked .before .before in
-    dword-kept row refl refl 0xFFFFFFC1 refl _ _ (omega arith) (whole .if2 .left) (kept _ (whole .before .if1 .left))
-    (passes (asked .allowed .ensures) (c .if3 .left))
+    let called = c .before in
+    let whole = called .before .before in
+    dword-decides 15 row refl refl 0xFFFFFFC1 refl _ _ (omega arith) (whole .if2 .left) (kept _ (whole .before .if1 .left)) false
+    (asked (called .allowed .ensures) (c .if3 .left))
 
 pub colour-spec : {M : Type 1} → statement M
 colour-spec =
