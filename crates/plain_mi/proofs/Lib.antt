@@ -1,4 +1,5 @@
 pub mod Coding
+pub mod Bounds
 pub mod Bare
 pub mod Cleanness
 pub mod Content

@@ -28,7 +28,7 @@ placed at Pass = Pass
 placed at (Fails f) = Fails (fault (f .reason) (f .window) (at + f .index))
 
 module _ (at : ℕ) where
-  else-placed : {u x : Verdict} (v y : Verdict) → u ≡ placed at v → x ≡ placed at y → orElse u x ≡ placed at (orElse v y)
+  pub else-placed : {u x : Verdict} (v y : Verdict) → u ≡ placed at v → x ≡ placed at y → orElse u x ≡ placed at (orElse v y)
   unfolding placed
   else-placed {x = x} Pass y e f = ap (λ (v : Verdict). orElse v x) e ∙ f
   else-placed {x = x} (Fails g) y e f = ap (λ (v : Verdict). orElse v x) e
@@ -39,7 +39,7 @@ module _ (at : ℕ) where
   found-placed reason Nothing = refl
   found-placed reason (At k) = ap (λ (i : ℕ). Fails (fault reason batchWindow i)) (omega arith)
 
-  test-placed : (b : Bool) (reason : Reason)
+  pub test-placed : (b : Bool) (reason : Reason)
       → refuseIf b (fault reason batchWindow at) ≡ placed at (refuseIf b (fault reason batchWindow 0))
   unfolding placed
   test-placed true reason = ap (λ (i : ℕ). Fails (fault reason batchWindow i)) (omega arith)
