@@ -1,0 +1,4 @@
+pub mod BitsOnly
+pub mod FormatWords
+pub mod Controls
+pub mod BufferRanges
