@@ -2,3 +2,4 @@ pub mod BitsOnly
 pub mod FormatWords
 pub mod Controls
 pub mod BufferRanges
+pub mod Deciding
