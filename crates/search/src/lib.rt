@@ -18,6 +18,8 @@ use rules::Windows;
 use rules::names::ROWS;
 use windows::access_wrong;
 
+pub mod by_row;
+
 // What a search over a command's dwords looks for: a bit that is not allowed (10), a value rule broken (12), a range that does not fit (13).
 pub enum Sought {
     Bits,
