@@ -18,10 +18,11 @@ use rules::Windows;
 use rules::names::ROWS;
 use windows::access_wrong;
 
+mod by_row;
 pub mod looked;
 
 // What a search over a command's dwords looks for: a bit that is not allowed (10), a value rule broken (12), a range that does not fit (13).
-pub enum Sought {
+enum Sought {
     Bits,
     Values,
     Ranges,
@@ -60,7 +61,7 @@ fn wrong_at(
 }
 
 // The first dword of the command that is what is looked for. The tables are lent, since naming a constant here would copy it.
-pub fn first_wrong(
+fn first_wrong(
     what: Sought,
     w: Windows,
     row: usize,

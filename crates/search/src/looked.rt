@@ -10,8 +10,9 @@ ghost use Rattle.rules.specs.Step.{nested};
 ghost use Rattle.rows.specs.Masks.{maskTable};
 ghost use Rattle.looks.specs.declared.Look.the-variants.{Wrong};
 ghost use Rattle.looks.specs.Looks.{contentOf, lookOf};
-use crate::Sought;
-use crate::first_wrong;
+use crate::by_row::first_bit;
+use crate::by_row::first_range;
+use crate::by_row::first_value;
 use looks::Look;
 use rows::length_of;
 use rows::length_right;
@@ -55,16 +56,16 @@ fn content_fault(
     requires { ⌜ (row < rowCount) × (groupSize row ≡ 0 → length (now command) ≤ 1) × (at + length (now command) < 2 ^ 63) × (now masks ≡ maskTable) × (now formats ≡ surfaceFormats) ⌝ }
     ensures { λ r. ⌜ r ≡ contentOf w row (now (command .entry)) at level ⌝ }
 {
-    if let Found::At(k) = first_wrong(Sought::Bits, w, row, command, masks, formats) {
+    if let Found::At(k) = first_bit(w, row, command, masks, formats) {
         return fails(Reason::BitNotAllowed, at + k);
     }
     if is_nested(row, level) {
         return fails(Reason::NestedStart, at);
     }
-    if let Found::At(k) = first_wrong(Sought::Values, w, row, command, masks, formats) {
+    if let Found::At(k) = first_value(w, row, command, masks, formats) {
         return fails(Reason::ValueBroken, at + k);
     }
-    if let Found::At(k) = first_wrong(Sought::Ranges, w, row, command, masks, formats) {
+    if let Found::At(k) = first_range(w, row, command, masks, formats) {
         return fails(Reason::RangeOutside, at + k);
     }
     Verdict::Pass

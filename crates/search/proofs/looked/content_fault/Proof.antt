@@ -20,43 +20,43 @@ use Rattle.search.proofs.looked.content_fault.Tie as tie
 abbrev found : Sought → tie.Start → Found
 found what s = firstOf (wrong what (s .args .w) (s .args .row) (s .args .command .now)) (length (s .args .command .now))
 
-abbrev start : tie.After-first-wrong → tie.Start
+abbrev start : tie.After-first-bit → tie.Start
 start c = c .before .before
 
-abbrev bits : tie.After-first-wrong2 → tie.After-enum-told
+abbrev bits : tie.After-first-value → tie.After-enum-told
 bits c = c .before .before .before
 
-abbrev values : tie.After-first-wrong3 → tie.After-enum-told2
+abbrev values : tie.After-first-range → tie.After-enum-told2
 values c = c .before
 
 abbrev at-bits : tie.After-enum-told → tie.Start
 at-bits c = start (c .before .before)
 
-abbrev at-values : tie.After-first-wrong2 → tie.Start
+abbrev at-values : tie.After-first-value → tie.Start
 at-values c = at-bits (bits c)
 
-abbrev at-ranges : tie.After-first-wrong3 → tie.Start
+abbrev at-ranges : tie.After-first-range → tie.Start
 at-ranges c = at-values (values c .before .before)
 
 -- where the checks go on
 no-bits : (c : tie.After-enum-told) → found Bits (at-bits c) ≡ Nothing
-no-bits c = sym (c .before .before .first-wrong .ensures) ∙ c .enum-told .given .1
+no-bits c = sym (c .before .before .first-bit .ensures) ∙ c .enum-told .given .1
 
-unnested : (c : tie.After-first-wrong2) → nested (at-values c .args .row) (at-values c .args .level) ≡ false
+unnested : (c : tie.After-first-value) → nested (at-values c .args .row) (at-values c .args .level) ≡ false
 unnested c = sym (c .before .before .is-nested .ensures) ∙ c .before .if1 .left
 
 no-values : (c : tie.After-enum-told2) → found Values (at-values (c .before .before)) ≡ Nothing
-no-values c = sym (c .before .before .first-wrong2 .ensures) ∙ c .enum-told2 .given .1
+no-values c = sym (c .before .before .first-value .ensures) ∙ c .enum-told2 .given .1
 
 -- and where they end
 bit-found : (c : tie.After-k) → found Bits (start (c .before .before)) ≡ At (c .k .given .0 .0)
-bit-found c = sym (c .before .before .first-wrong .ensures) ∙ c .k .given .1
+bit-found c = sym (c .before .before .first-bit .ensures) ∙ c .k .given .1
 
 value-found : (c : tie.After-k2) → found Values (at-values (c .before .before)) ≡ At (c .k2 .given .0 .0)
-value-found c = sym (c .before .before .first-wrong2 .ensures) ∙ c .k2 .given .1
+value-found c = sym (c .before .before .first-value .ensures) ∙ c .k2 .given .1
 
 range-found : (c : tie.After-k3) → found Ranges (at-ranges (c .before .before)) ≡ At (c .k3 .given .0 .0)
-range-found c = sym (c .before .before .first-wrong3 .ensures) ∙ c .k3 .given .1
+range-found c = sym (c .before .before .first-range .ensures) ∙ c .k3 .given .1
 
 bit-place : tie.Need-add-fails
 bit-place c = omega (arith, found-below _ _ (bit-found (c .before)), start (c .before .before .before) .pre .2)
@@ -92,7 +92,7 @@ passes : tie.Need-returns-5
 passes c =
     let last = c .before .before in
     let searched = values last .before .before in
-    all-clear _ _ _ _ _ (no-bits (bits searched)) (unnested searched) (no-values (values last)) (sym (last .first-wrong3 .ensures) ∙ c .enum-told3 .given .1)
+    all-clear _ _ _ _ _ (no-bits (bits searched)) (unnested searched) (no-values (values last)) (sym (last .first-range .ensures) ∙ c .enum-told3 .given .1)
 
 pub content-fault-spec : {M : Type 1} → statement M
 content-fault-spec =
