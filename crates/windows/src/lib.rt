@@ -12,6 +12,7 @@ ghost use Rattle.rules.specs.Refusals.{fault, batchWindow};
 ghost use Rattle.rules.specs.Windows.{lent, listed, end, windowLimit, countsWrong, unaligned, endsTooHigh, shareByte, windowFault};
 ghost use Rattle.rules.specs.Windows.{fits, holdsDwords, heldAt, partOf};
 ghost use Rattle.rules.specs.Addresses.{accessWrong};
+ghost use Rattle.windows.specs.Parts.{WithinItsWindow};
 use rules::Access;
 use rules::Held;
 use rules::Reason;
@@ -203,6 +204,18 @@ fn part(words: &[u32], from: usize, n: usize) -> &[u32]
     &words[from..from + n]
 }
 
+// The n dwords from where they are held on, as a part of the window that holds them; an empty part if neither does.
+pub fn part_of<'a>(batch: &'a [u32], state: &'a [u32], held: Held, n: usize) -> &'a [u32]
+    requires { ⌜ WithinItsWindow (length (now batch)) (length (now state)) n held ⌝ }
+    ensures { λ r. ⌜ now r ≡ partOf (now (batch .entry)) (now (state .entry)) n held ⌝ }
+{
+    match held {
+        Held::InBatch(i) => part(batch, i, n),
+        Held::InState(i) => part(state, i, n),
+        Held::Nowhere => &batch[..0],
+    }
+}
+
 // The n dwords at the address, as a part of whichever of the two lent windows holds them; an empty part if neither does.
 pub fn structure<'a>(
     batch: &'a [u32],
@@ -217,9 +230,6 @@ pub fn structure<'a>(
         (heldAt (lent «batch_at» (length (now (batch .entry)))) (lent «state_at» (length (now (state .entry)))) address n)
         ⌝ }
 {
-    match held_in(batch, batch_at, state, state_at, address, n) {
-        Held::InBatch(i) => part(batch, i, n),
-        Held::InState(i) => part(state, i, n),
-        Held::Nowhere => &batch[..0],
-    }
+    let held = held_in(batch, batch_at, state, state_at, address, n);
+    part_of(batch, state, held, n)
 }
