@@ -113,17 +113,18 @@ pub fn sound(batch_count: usize, state_count: usize, w: Windows) -> Verdict
     Verdict::Pass
 }
 
-// Whether all the bytes lie in some window. Left at the first that holds them, since each test has several ways out.
-fn anywhere(w: Windows, address: u64, bytes: u64) -> bool
+// Whether all the bytes lie in some window. Left at the first that holds them, since each test has several ways out. Scratch is asked first: it
+// is where most ranges lie.
+pub fn anywhere(w: Windows, address: u64, bytes: u64) -> bool
     ensures { λ r. ⌜ r ≡ fits w AnyWindow address bytes ⌝ }
 {
+    if words::holds(w.scratch, address, bytes) {
+        return true;
+    }
     if words::holds(w.batch, address, bytes) {
         return true;
     }
-    if words::holds(w.state, address, bytes) {
-        return true;
-    }
-    words::holds(w.scratch, address, bytes)
+    words::holds(w.state, address, bytes)
 }
 
 // Whether all the bytes lie in one of the windows that the rule names.
