@@ -13,7 +13,6 @@ ghost use Rattle.rules.specs.Values.{components, componentsWrong};
 ghost use Rattle.sift.specs.Clean.{cleanFrom, cleanOf};
 ghost use Rattle.quick.specs.Quick.{OfGroups, GroupAt};
 use commands::addresses::vertex_buffer_range;
-use commands::dwords::address_of;
 use rows::group_size;
 use rules::Windows;
 use sift::masks::four;
@@ -21,6 +20,7 @@ use sift::masks::one;
 use sift::masks::two;
 use sift::values;
 use windows::access_wrong;
+use words::dwords::address_of;
 
 // Whether some control is above 4. With 3 added to all four at once, each that is has the clear bit above it set.
 fn some_over(word: u32) -> bool

@@ -17,11 +17,11 @@ use crate::values;
 use commands::addresses::index_buffer_use;
 use commands::addresses::pipe_use;
 use commands::addresses::store_use;
-use commands::dwords::address_at;
 use rules::Access;
 use rules::Windows;
 use rules::Within;
 use windows::access_wrong;
+use words::dwords::address_at;
 
 // Whether the address that starts at k fits, if it is used.
 pub fn held(w: Windows, d: &[u32], k: usize, access: Access) -> bool

@@ -10,7 +10,6 @@ ghost use Rattle.rules.specs.Structures.{verdictOf};
 ghost use Rattle.rules.specs.Step.{nested, pointerOf};
 ghost use Rattle.rows.specs.Masks.{maskTable};
 ghost use Rattle.step.specs.Parts.{captured, Fitted, SmallBase, contentOf, structuralOf};
-use commands::dwords::dword;
 use rules::Base;
 use rules::Found;
 use rules::Kind;
@@ -27,6 +26,7 @@ use rules::names::START_ROW;
 use rules::names::VIEWPORT_ROW;
 use search::Sought;
 use search::first_wrong;
+use words::dwords::dword;
 
 // A fault in the batch, as a verdict.
 fn fails(reason: Reason, index: usize) -> Verdict

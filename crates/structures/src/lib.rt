@@ -19,6 +19,7 @@ use rules::Reading;
 use rules::Reason;
 use rules::Verdict;
 use rules::faults::in_batch;
+use words::dwords::dword;
 
 // The sign of a value, the highest of its bits.
 const SIGN: u32 = 0x8000_0000;
@@ -41,13 +42,6 @@ fn dwords_of(kind: Kind) -> usize
         Kind::Viewport => 2,
         Kind::ColourCalc => 6,
     }
-}
-
-// Dword k of a structure; 0 past its end.
-fn dword(d: &[u32], k: usize) -> u32
-    ensures { λ r. ⌜ r ≡ getD (now (d .entry)) k 0 ⌝ }
-{
-    if k < d.len() { d[k] } else { 0 }
 }
 
 // Whether the bits are a NaN's: without the sign they are above an infinity's.
