@@ -10,13 +10,13 @@ ghost use Rattle.rules.specs.Masks.{allowedOf};
 ghost use Rattle.rows.specs.Masks.{maskTable};
 ghost use Rattle.search.specs.Search.{wrongAt, wrong};
 use commands::addresses::access_of;
-use commands::dwords::address_at;
 use commands::values::value_wrong;
 use rows::group_size;
 use rules::Found;
 use rules::Windows;
 use rules::names::ROWS;
 use windows::access_wrong;
+use words::dwords::address_at;
 
 mod by_row;
 pub mod looked;

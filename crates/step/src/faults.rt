@@ -5,7 +5,6 @@ ghost use Rattle.rules.specs.Refusals.{fault, batchWindow};
 ghost use Rattle.rules.specs.Structures.{verdictOf};
 ghost use Rattle.rules.specs.Step.{pointerOf};
 ghost use Rattle.step.specs.Parts.{captured, SmallBase, structuralOf};
-use commands::dwords::dword;
 use rules::Base;
 use rules::Kind;
 use rules::Pointer;
@@ -16,6 +15,7 @@ use rules::Windows;
 use rules::faults::in_batch;
 use rules::names::COLOUR_ROW;
 use rules::names::VIEWPORT_ROW;
+use words::dwords::dword;
 
 // A fault in the batch, as a verdict.
 fn fails(reason: Reason, index: usize) -> Verdict

@@ -1,10 +1,10 @@
--- `commands::dwords::dword` meets its contract: past the end stands 0.
+-- `words::dwords::dword` meets its contract: past the end stands 0.
 -- Assumes nothing.
 use mathlib.Core.Path.{sym}
 use lib.ListN.{List·getD-eq-default}
 use borrow.Author.Needs.{needs}
-use Rattle.commands.proofs.dwords.dword.Statement.{statement}
-use Rattle.commands.proofs.dwords.dword.Tie as tie
+use Rattle.words.proofs.dwords.dword.Statement.{statement}
+use Rattle.words.proofs.dwords.dword.Tie as tie
 
 pub dword-spec : {M : Type 1} → statement M
 dword-spec =

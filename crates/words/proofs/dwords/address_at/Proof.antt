@@ -1,10 +1,10 @@
--- `commands::dwords::address_at` meets its contract.
+-- `words::dwords::address_at` meets its contract.
 -- Assumes nothing.
 use mathlib.Core.Path.{_∙_}
 use Rattle.rules.specs.Uses.{addressAt}
 use borrow.Author.Needs.{needs}
-use Rattle.commands.proofs.dwords.address_at.Statement.{statement}
-use Rattle.commands.proofs.dwords.address_at.Tie as tie
+use Rattle.words.proofs.dwords.address_at.Statement.{statement}
+use Rattle.words.proofs.dwords.address_at.Tie as tie
 
 pub address-at-spec : {M : Type 1} → statement M
 unfolding addressAt
