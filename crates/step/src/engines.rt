@@ -26,6 +26,6 @@ pub fn looked(
 {
     match engine {
         Engine::Table => search::looked::looked(batch, w, at, level, masks, formats),
-        Engine::Plain => search::looked::looked(batch, w, at, level, masks, formats),
+        Engine::Plain => plain_3d::looked(batch, w, at, level),
     }
 }
