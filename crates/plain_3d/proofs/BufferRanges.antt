@@ -14,7 +14,7 @@ use Rattle.rules.specs.declared.Access.the-variants.{Unused}
 use Rattle.rules.specs.declared.Reason.the-variants.{RangeOutside}
 use Rattle.rules.specs.declared.Windows.{Windows}
 use Rattle.rules.specs.Words.{bit}
-use Rattle.rules.specs.Commands.{rows, theRow, groupSize}
+use Rattle.rules.specs.Commands.{vertexBuffersRow, rows, theRow, groupSize}
 use Rattle.rules.specs.Uses.{sized, usesByRow, accessOf, addressAt, accessAt}
 use Rattle.rules.specs.Refusals.{numberOf}
 use Rattle.rules.specs.Addresses.{accessWrong, rangeWrong}
@@ -52,7 +52,7 @@ without-address x n =
 module _ (w : Windows) (d : List ℕ) (k : ℕ) (g : GroupAt 4 d k) where
   -- the access of its second dword
   pub range-is : {a : Access} → cond (not (bit (getD d k 0) 13) && bit (getD d k 0) 14) (sized (getD d (k + 3) 0)) Unused ≡ a
-      → rangeWrong w 10 d (k + 1) ≡ accessWrong w (getD d (k + 1) 0 + 2 ^ 32 * getD d (k + 2) 0) a
+      → rangeWrong w vertexBuffersRow d (k + 1) ≡ accessWrong w (getD d (k + 1) 0 + 2 ^ 32 * getD d (k + 2) 0) a
   unfolding rows theRow groupSize usesByRow accessOf accessAt addressAt rangeWrong
   range-is e =
       let p : k + 1 - 1 ≡ k = omega arith in
@@ -62,19 +62,20 @@ module _ (w : Windows) (d : List ℕ) (k : ℕ) (g : GroupAt 4 d k) where
       rw (at, p, q, s, e)
 
   -- the others have none
-  quiet : (i j : ℕ) → i < 4 → j ≡ i + 1 → accessOf 10 d (k + i) j (getD d (k + i) 0) ≡ Unused → rangeWrong w 10 d (k + i) ≡ false
+  quiet : (i j : ℕ) → i < 4 → j ≡ i + 1 → accessOf vertexBuffersRow d (k + i) j (getD d (k + i) 0) ≡ Unused
+      → rangeWrong w vertexBuffersRow d (k + i) ≡ false
   unfolding rows theRow groupSize accessAt rangeWrong
   quiet i j h q e = rw (spot-in 4 k i (g .0) (g .2) h refl, ← q, e)
 
-  first-quiet : rangeWrong w 10 d k ≡ false
+  first-quiet : rangeWrong w vertexBuffersRow d k ≡ false
   unfolding usesByRow accessOf
-  first-quiet = let p : k ≡ k + 0 = omega arith in ap (rangeWrong w 10 d) p ∙ quiet 0 1 (omega arith) refl refl
+  first-quiet = let p : k ≡ k + 0 = omega arith in ap (rangeWrong w vertexBuffersRow d) p ∙ quiet 0 1 (omega arith) refl refl
 
-  pub range-fails : rangeWrong w 10 d (k + 1) ≡ true → firstCoded RangeOutside (rangeWrong w 10 d) k 4 ≡ 3328 + (k + 1)
+  pub range-fails : rangeWrong w vertexBuffersRow d (k + 1) ≡ true → firstCoded RangeOutside (rangeWrong w vertexBuffersRow d) k 4 ≡ 3328 + (k + 1)
   unfolding numberOf
   range-fails e = passed-at _ _ k 3 refl first-quiet ∙ found-at _ _ (k + 1) 2 refl e
 
-  pub range-fits : rangeWrong w 10 d (k + 1) ≡ false → firstCoded RangeOutside (rangeWrong w 10 d) k 4 ≡ 0
+  pub range-fits : rangeWrong w vertexBuffersRow d (k + 1) ≡ false → firstCoded RangeOutside (rangeWrong w vertexBuffersRow d) k 4 ≡ 0
   unfolding usesByRow accessOf
   range-fits e =
       passed-at _ _ k 3 refl first-quiet
@@ -83,8 +84,8 @@ module _ (w : Windows) (d : List ℕ) (k : ℕ) (g : GroupAt 4 d k) where
       ∙ passed-at _ _ (k + 1 + 1 + 1) 0 (omega arith) (quiet 3 4 (omega arith) refl refl)
       ∙ none-left _ _ (k + 1 + 1 + 1 + 1)
 
-  pub range-decides : freeFrom (rangeWrong w 10 d) k 4 ≡ not (rangeWrong w 10 d (k + 1))
+  pub range-decides : freeFrom (rangeWrong w vertexBuffersRow d) k 4 ≡ not (rangeWrong w vertexBuffersRow d (k + 1))
   range-decides =
       ⊎-elim
       (λ p. coded-faulty RangeOutside _ k 4 (λ z. let q = sym (range-fails p) ∙ z in omega arith) ∙ rw p)
-      (λ p. coded-free RangeOutside _ k 4 (range-fits p) ∙ rw p) (either (rangeWrong w 10 d (k + 1)))
+      (λ p. coded-free RangeOutside _ k 4 (range-fits p) ∙ rw p) (either (rangeWrong w vertexBuffersRow d (k + 1)))

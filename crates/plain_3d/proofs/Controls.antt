@@ -90,9 +90,9 @@ module _ (w : ℕ) (e : allowed w 0x77770000 ≡ true) where
       let q : w % 2 ^ 16 ≡ bitAnd (w % 2 ^ 16) 0 = ap (λ (n : ℕ). n % 2 ^ 16) (sym kept) ∙ and-mod w 0x77770000 16 in
       omega (arith, q, and-le-r (w % 2 ^ 16) 0)
 
-  four : w ≡ word (w / 0x10000000 % 8) (w / 0x1000000 % 8) (w / 0x100000 % 8) (w / 0x10000 % 8)
+  as-controls : w ≡ word (w / 0x10000000 % 8) (w / 0x1000000 % 8) (w / 0x100000 % 8) (w / 0x10000 % 8)
   unfolding word
-  four =
+  as-controls =
       let r : w / 0x8000000 % 2 ≡ 0 = bit-off w 0x77770000 27 kept refl in
       let s : w / 0x800000 % 2 ≡ 0 = bit-off w 0x77770000 23 kept refl in
       let t : w / 0x80000 % 2 ≡ 0 = bit-off w 0x77770000 19 kept refl in
@@ -107,6 +107,6 @@ module _ (w : ℕ) (e : allowed w 0x77770000 ≡ true) where
   -- the test is the rule
   pub at-once : atOnce w ≡ not (componentsWrong w)
   at-once =
-      ap atOnce four
+      ap atOnce as-controls
       ∙ right-of _ _ _ _ (remains _) (remains _) (remains _) (remains _)
-      ∙ ap (λ (n : ℕ). not (componentsWrong n)) (sym four)
+      ∙ ap (λ (n : ℕ). not (componentsWrong n)) (sym as-controls)

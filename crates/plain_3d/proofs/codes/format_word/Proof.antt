@@ -43,14 +43,14 @@ word-7 c = rw (c .match .keys8)
 none : tie.Need-returns-9
 none c =
     let left = c .match .rest in
-    let one = above (omega arith) (left .0 .0 .0 .0 .0 .0 .0 .1) in
-    let two = above one (left .0 .0 .0 .0 .0 .0 .1) in
-    let three = above two (left .0 .0 .0 .0 .0 .1) in
-    let four = above three (left .0 .0 .0 .0 .1) in
-    let five = above four (left .0 .0 .0 .1) in
-    let six = above five (left .0 .0 .1) in
-    let seven = above six (left .0 .1) in
-    absurd (below (c .before .pre) (above seven (left .1)))
+    let from-1 = above (omega arith) (left .0 .0 .0 .0 .0 .0 .0 .1) in
+    let from-2 = above from-1 (left .0 .0 .0 .0 .0 .0 .1) in
+    let from-3 = above from-2 (left .0 .0 .0 .0 .0 .1) in
+    let from-4 = above from-3 (left .0 .0 .0 .0 .1) in
+    let from-5 = above from-4 (left .0 .0 .0 .1) in
+    let from-6 = above from-5 (left .0 .0 .1) in
+    let from-7 = above from-6 (left .0 .1) in
+    absurd (below (c .before .pre) (above from-7 (left .1)))
   where
     below : {n : ℕ} → n < 8 → 8 ≤ n → ⊥
     below h l = omega arith

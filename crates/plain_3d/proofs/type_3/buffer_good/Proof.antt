@@ -2,6 +2,7 @@
 -- Assumes nothing.
 use borrow.Author.Needs.{needs}
 use mathlib.Core.Path.{sym, _∙_}
+use Rattle.rules.specs.Commands.{vertexBuffersRow}
 use Rattle.plain_3d.proofs.BufferRanges.{range-decides}
 use Rattle.plain_mi.proofs.Cleanness.{bits-fail, values-fail, ranges-decide}
 use Rattle.plain_3d.proofs.type_3.buffer_good.Statement.{statement}
@@ -11,13 +12,13 @@ bit : tie.Need-returns
 bit c =
     let bits = c .before in
     let start = bits .before .before in
-    sym (bits-fail (start .args .w) 10 _ (start .args .k) 4 (λ z. c .if1 .taken (bits .buffer-bit .ensures ∙ z)))
+    sym (bits-fail (start .args .w) vertexBuffersRow _ (start .args .k) 4 (λ z. c .if1 .taken (bits .buffer-bit .ensures ∙ z)))
 
 value : tie.Need-returns-2
 value c =
     let values = c .before in
     let start = values .before .before .before .before in
-    sym (values-fail (start .args .w) 10 _ (start .args .k) 4 (λ z. c .if2 .taken (values .buffer-value .ensures ∙ z)))
+    sym (values-fail (start .args .w) vertexBuffersRow _ (start .args .k) 4 (λ z. c .if2 .taken (values .buffer-value .ensures ∙ z)))
 
 range : tie.Need-returns-3
 range c =
@@ -27,7 +28,7 @@ range c =
     let k = start .args .k in
     c .buffer-fits .ensures
     ∙ sym
-    (ranges-decide (start .args .w) 10 _ k 4 (sym (bits .buffer-bit .ensures) ∙ values .before .if1 .left)
+    (ranges-decide (start .args .w) vertexBuffersRow _ k 4 (sym (bits .buffer-bit .ensures) ∙ values .before .if1 .left)
     (sym (values .buffer-value .ensures) ∙ c .before .if2 .left)
     ∙ range-decides (start .args .w) _ k (start .pre))
 

@@ -7,6 +7,7 @@ use mathlib.Core.Path.{sym, _∙_}
 use lib.ListN.{length}
 use borrow.Author.Tests.{not-true, not-false}
 use Rattle.rules.specs.declared.Reason.the-variants.{RangeOutside}
+use Rattle.rules.specs.Commands.{vertexBuffersRow}
 use Rattle.rules.specs.Addresses.{rangeWrong}
 use Rattle.plain_mi.specs.Plain.{firstCoded}
 use Rattle.plain_3d.proofs.BufferRanges.{range-fails, range-fits}
@@ -15,7 +16,7 @@ use Rattle.plain_3d.proofs.type_3.buffer_ranges.Statement.{statement}
 use Rattle.plain_3d.proofs.type_3.buffer_ranges.Tie as tie
 
 abbrev Inv-loop : tie.InvT-loop
-Inv-loop w d k₀ k = AtGroup (firstCoded RangeOutside (rangeWrong w 10 d)) 4 (length d) k
+Inv-loop w d k₀ k = AtGroup (firstCoded RangeOutside (rangeWrong w vertexBuffersRow d)) 4 (length d) k
 
 abbrev μ-loop : tie.MeasureT-loop
 μ-loop w d k₀ k = length d - k

@@ -10,7 +10,7 @@ use lib.Dec.{ltb}
 use lib.ListN.{getD}
 use borrow.Author.Tests.{lt-ltb, le-ltb}
 use Rattle.rules.specs.Words.{field}
-use Rattle.rules.specs.Commands.{rows, theRow, groupSize}
+use Rattle.rules.specs.Commands.{vertexBuffersRow, rows, theRow, groupSize}
 use Rattle.rules.specs.Refusals.{numberOf}
 use Rattle.rules.specs.Values.{valueRules, ruleOf, valueWrong}
 use Rattle.plain_mi.specs.Plain.{GroupAt}
@@ -21,21 +21,21 @@ use Rattle.plain_3d.proofs.type_3.buffer_value.Tie as tie
 
 -- what 12 asks of its four dwords
 module _ (d : List ℕ) (k : ℕ) (g : GroupAt 4 d k) where
-  first-value : valueWrong 10 d k ≡ (ltb 32 (field (getD d k 0) 31 26) || ltb 2048 (field (getD d k 0) 11 0))
+  first-value : valueWrong vertexBuffersRow d k ≡ (ltb 32 (field (getD d k 0) 31 26) || ltb 2048 (field (getD d k 0) 11 0))
   unfolding rows theRow groupSize valueRules ruleOf
-  first-value = value-at 10 d k 1 (spot-in 4 k 0 (g .0) (g .2) (omega arith) (omega arith))
+  first-value = value-at vertexBuffersRow d k 1 (spot-in 4 k 0 (g .0) (g .2) (omega arith) (omega arith))
 
-  second-value : valueWrong 10 d (k + 1) ≡ false
+  second-value : valueWrong vertexBuffersRow d (k + 1) ≡ false
   unfolding rows theRow groupSize valueRules ruleOf
-  second-value = value-at 10 d (k + 1) 2 (spot-in 4 k 1 (g .0) (g .2) (omega arith) refl)
+  second-value = value-at vertexBuffersRow d (k + 1) 2 (spot-in 4 k 1 (g .0) (g .2) (omega arith) refl)
 
-  third-value : valueWrong 10 d (k + 2) ≡ false
+  third-value : valueWrong vertexBuffersRow d (k + 2) ≡ false
   unfolding rows theRow groupSize valueRules ruleOf
-  third-value = value-at 10 d (k + 2) 3 (spot-in 4 k 2 (g .0) (g .2) (omega arith) refl)
+  third-value = value-at vertexBuffersRow d (k + 2) 3 (spot-in 4 k 2 (g .0) (g .2) (omega arith) refl)
 
-  last-value : valueWrong 10 d (k + 3) ≡ false
+  last-value : valueWrong vertexBuffersRow d (k + 3) ≡ false
   unfolding rows theRow groupSize valueRules ruleOf
-  last-value = value-at 10 d (k + 3) 4 (spot-in 4 k 3 (g .0) (g .2) (omega arith) refl)
+  last-value = value-at vertexBuffersRow d (k + 3) 4 (spot-in 4 k 3 (g .0) (g .2) (omega arith) refl)
 
 pitch-is : (x : ℕ) → field x 11 0 ≡ x % 0x1000
 pitch-is x = omega arith

@@ -8,6 +8,7 @@ use mathlib.Core.List.{List}
 use lib.ListN.{length}
 use Rattle.rules.specs.declared.Level.the-variants.{First}
 use Rattle.rules.specs.declared.Windows.{Windows}
+use Rattle.rules.specs.Commands.{vertexBuffersRow}
 use Rattle.rules.specs.Words.{inGroup}
 use Rattle.rules.specs.Masks.{bitWrong}
 use Rattle.rules.specs.Uses.{usesByRow, accessOf, accessAt}
@@ -17,7 +18,7 @@ use Rattle.plain_mi.proofs.Content.{HeaderRight, bit-says, value-says, range-sa
 use Rattle.plain_3d.proofs.type_3.buffers.Statement.{statement}
 use Rattle.plain_3d.proofs.type_3.buffers.Tie as tie
 
-header : (w : Windows) (d : List ℕ) → 0 < length d → bitWrong 10 d 0 ≡ false → HeaderRight w 10 d First
+header : (w : Windows) (d : List ℕ) → 0 < length d → bitWrong vertexBuffersRow d 0 ≡ false → HeaderRight w vertexBuffersRow d First
 unfolding inGroup valueRules ruleOf valueWrong usesByRow accessOf accessAt rangeWrong
 header w d l e = record { some = l; bits = e; value = refl; range = refl; quiet = refl }
 

@@ -5,6 +5,7 @@ use native.Mathlib.Omega.{arith}
 use mathlib.Core.Path.{sym, _∙_}
 use lib.ListN.{length}
 use Rattle.rules.specs.declared.Reason.the-variants.{BitNotAllowed}
+use Rattle.rules.specs.Commands.{vertexElementsRow}
 use Rattle.rules.specs.Masks.{bitWrong}
 use Rattle.plain_mi.specs.Plain.{firstCoded}
 use Rattle.plain_mi.proofs.Grouping.{AtGroup, first-in-order, at-first, group-fits, at-next, stops-at, all-passed}
@@ -12,7 +13,7 @@ use Rattle.plain_3d.proofs.type_3.element_bits.Statement.{statement}
 use Rattle.plain_3d.proofs.type_3.element_bits.Tie as tie
 
 abbrev Inv-loop : tie.InvT-loop
-Inv-loop d k₀ k = AtGroup (firstCoded BitNotAllowed (bitWrong 11 d)) 2 (length d) k
+Inv-loop d k₀ k = AtGroup (firstCoded BitNotAllowed (bitWrong vertexElementsRow d)) 2 (length d) k
 
 abbrev μ-loop : tie.MeasureT-loop
 μ-loop d k₀ k = length d - k

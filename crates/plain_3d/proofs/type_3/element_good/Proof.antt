@@ -8,7 +8,7 @@ use lib.Dec.{eqb}
 use borrow.Author.Tests.{eqb-true, eqb-false}
 use Rattle.rules.proofs.Searching.{either}
 use mathlib.Core.Logic.{⊎-elim}
-use Rattle.rules.specs.Commands.{rows, theRow, groupSize}
+use Rattle.rules.specs.Commands.{vertexElementsRow, rows, theRow, groupSize}
 use Rattle.rules.specs.Masks.{masksOf}
 use Rattle.rules.specs.Uses.{usesByRow, accessOf}
 use Rattle.plain_mi.specs.Plain.{noWindows}
@@ -22,7 +22,7 @@ bit : tie.Need-returns
 bit c =
     let bits = c .before in
     let start = bits .before .before in
-    sym (bits-fail noWindows 11 _ (start .args .k) 2 (λ z. c .if1 .taken (bits .element-bit .ensures ∙ z)))
+    sym (bits-fail noWindows vertexElementsRow _ (start .args .k) 2 (λ z. c .if1 .taken (bits .element-bit .ensures ∙ z)))
 
 element-value-requires : tie.Need-element-value-requires
 unfolding rows theRow groupSize masksOf
@@ -31,7 +31,7 @@ element-value-requires c κs =
     let start = bits .before .before in
     let k = start .args .k in (
       start .pre,
-      kept-at 11 _ (k + 1) 2 (spot-in 2 k 1 (start .pre .0) (start .pre .2) (omega arith) refl) refl
+      kept-at vertexElementsRow _ (k + 1) 2 (spot-in 2 k 1 (start .pre .0) (start .pre .2) (omega arith) refl) refl
           (no-fault _ _ k 2 (sym (bits .element-bit .ensures) ∙ c .if1 .left) (k + 1) (omega arith) (omega arith)),
     )
 
@@ -46,9 +46,9 @@ value c =
     (λ p.
     p
     ∙ sym
-    (ranges-decide noWindows 11 _ k 2 (sym (bits .element-bit .ensures) ∙ c .before .if1 .left) (sym said ∙ eqb-true _ _ p)
-    ∙ no-ranges noWindows 11 _ refl k 2))
-    (λ p. p ∙ sym (values-fail noWindows 11 _ k 2 (λ z. eqb-false _ _ p (said ∙ z)))) (either (eqb (c .element-value .result) 0))
+    (ranges-decide noWindows vertexElementsRow _ k 2 (sym (bits .element-bit .ensures) ∙ c .before .if1 .left) (sym said ∙ eqb-true _ _ p)
+    ∙ no-ranges noWindows vertexElementsRow _ refl k 2))
+    (λ p. p ∙ sym (values-fail noWindows vertexElementsRow _ k 2 (λ z. eqb-false _ _ p (said ∙ z)))) (either (eqb (c .element-value .result) 0))
 
 pub element-good-spec : {M : Type 1} → statement M
 element-good-spec = tie.close (tie.spec (λ c κs. search needs) bit element-value-requires value)

@@ -11,7 +11,7 @@ use lib.ListN.{getD}
 use borrow.Author.Tests.{lt-ltb, le-ltb, not-true, not-false}
 use Rattle.rules.specs.Words.{field}
 use Rattle.rules.specs.Formats.{formatBits}
-use Rattle.rules.specs.Commands.{rows, theRow, groupSize}
+use Rattle.rules.specs.Commands.{vertexElementsRow, rows, theRow, groupSize}
 use Rattle.rules.specs.Refusals.{numberOf}
 use Rattle.rules.specs.Values.{componentsWrong, valueRules, ruleOf, valueWrong}
 use Rattle.plain_mi.specs.Plain.{GroupAt}
@@ -22,13 +22,13 @@ use Rattle.plain_3d.proofs.type_3.element_value.Tie as tie
 
 -- what 12 asks of its two dwords
 module _ (d : List ℕ) (k : ℕ) (g : GroupAt 2 d k) where
-  first-value : valueWrong 11 d k ≡ (ltb 32 (field (getD d k 0) 31 26) || eqb (formatBits (field (getD d k 0) 24 16)) 0)
+  first-value : valueWrong vertexElementsRow d k ≡ (ltb 32 (field (getD d k 0) 31 26) || eqb (formatBits (field (getD d k 0) 24 16)) 0)
   unfolding rows theRow groupSize valueRules ruleOf
-  first-value = value-at 11 d k 1 (spot-in 2 k 0 (g .0) (g .2) (omega arith) (omega arith)) ∙ or-false _
+  first-value = value-at vertexElementsRow d k 1 (spot-in 2 k 0 (g .0) (g .2) (omega arith) (omega arith)) ∙ or-false _
 
-  second-value : valueWrong 11 d (k + 1) ≡ componentsWrong (getD d (k + 1) 0)
+  second-value : valueWrong vertexElementsRow d (k + 1) ≡ componentsWrong (getD d (k + 1) 0)
   unfolding rows theRow groupSize valueRules ruleOf
-  second-value = value-at 11 d (k + 1) 2 (spot-in 2 k 1 (g .0) (g .2) (omega arith) refl)
+  second-value = value-at vertexElementsRow d (k + 1) 2 (spot-in 2 k 1 (g .0) (g .2) (omega arith) refl)
 
 index : tie.Need-returns
 unfolding numberOf
@@ -58,8 +58,8 @@ controls-good-requires c κs = c .before .before .before .before .before .before
 controls : tie.Need-returns-3
 unfolding numberOf
 controls c =
-    let four = c .before .before in
-    let known = four .before .before .before in
+    let good = c .before .before in
+    let known = good .before .before .before in
     let start = known .before .before .before .before in
     let k = start .args .k in
     c .at3 .ensures
@@ -67,23 +67,23 @@ controls c =
     (passed-at _ _ k 1 refl
     (first-value _ k (start .pre .0)
     ∙ rw (le-ltb _ _ (low-index _ (known .before .if1 .left)))
-    (not-true _ (sym (known .known-format .ensures) ∙ not-false _ (four .before .before .if2 .left))))
+    (not-true _ (sym (known .known-format .ensures) ∙ not-false _ (good .before .before .if2 .left))))
     ∙ found-at _ _ (k + 1) 0 refl
-    (second-value _ k (start .pre .0) ∙ not-false _ (sym (four .controls-good .ensures) ∙ not-true _ (c .before .if3 .taken))))
+    (second-value _ k (start .pre .0) ∙ not-false _ (sym (good .controls-good .ensures) ∙ not-true _ (c .before .if3 .taken))))
 
 none : tie.Need-returns-4
 none c =
-    let four = c .before in
-    let known = four .before .before .before in
+    let good = c .before in
+    let known = good .before .before .before in
     let start = known .before .before .before .before in
     let k = start .args .k in
     sym
     (passed-at _ _ k 1 refl
     (first-value _ k (start .pre .0)
     ∙ rw (le-ltb _ _ (low-index _ (known .before .if1 .left)))
-    (not-true _ (sym (known .known-format .ensures) ∙ not-false _ (four .before .before .if2 .left))))
+    (not-true _ (sym (known .known-format .ensures) ∙ not-false _ (good .before .before .if2 .left))))
     ∙ passed-at _ _ (k + 1) 0 refl
-    (second-value _ k (start .pre .0) ∙ not-true _ (sym (four .controls-good .ensures) ∙ not-false _ (c .if3 .left)))
+    (second-value _ k (start .pre .0) ∙ not-true _ (sym (good .controls-good .ensures) ∙ not-false _ (c .if3 .left)))
     ∙ none-left _ _ (k + 1 + 1))
 
 pub element-value-spec : {M : Type 1} → statement M

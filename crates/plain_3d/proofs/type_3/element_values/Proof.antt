@@ -5,7 +5,7 @@ use native.Mathlib.Omega.{arith}
 use mathlib.Core.Path.{refl, sym, _∙_}
 use lib.ListN.{length}
 use Rattle.rules.specs.declared.Reason.the-variants.{ValueBroken}
-use Rattle.rules.specs.Commands.{rows, theRow, groupSize}
+use Rattle.rules.specs.Commands.{vertexElementsRow, rows, theRow, groupSize}
 use Rattle.rules.specs.Masks.{masksOf}
 use Rattle.rules.specs.Values.{valueWrong}
 use Rattle.plain_mi.specs.Plain.{firstCoded}
@@ -16,7 +16,7 @@ use Rattle.plain_3d.proofs.type_3.element_values.Statement.{statement}
 use Rattle.plain_3d.proofs.type_3.element_values.Tie as tie
 
 abbrev Inv-loop : tie.InvT-loop
-Inv-loop d k₀ k = AtGroup (firstCoded ValueBroken (valueWrong 11 d)) 2 (length d) k
+Inv-loop d k₀ k = AtGroup (firstCoded ValueBroken (valueWrong vertexElementsRow d)) 2 (length d) k
 
 abbrev μ-loop : tie.MeasureT-loop
 μ-loop d k₀ k = length d - k
@@ -32,7 +32,7 @@ element-value-requires c κs =
     let fits = group-fits at (start .pre .0 .1) (c .loop-test .taken) in
     let k = c .before .loop .k in (
       (at .from, fits, at .start),
-      kept-at 11 _ (k + 1) 2 (spot-in 2 k 1 (at .from) (at .start) (omega arith) refl) refl
+      kept-at vertexElementsRow _ (k + 1) 2 (spot-in 2 k 1 (at .from) (at .start) (omega arith) refl) refl
           (no-fault _ _ 1 _ (start .pre .1) (k + 1) (omega arith) (omega (arith, fits))),
     )
 

@@ -5,13 +5,13 @@ use Prim.Native.Nat.{ℕ, _%_, _≤_}
 use native.Mathlib.Omega.{arith}
 use mathlib.Core.Path.{_≡_, refl, sym, _∙_}
 use Rattle.rules.specs.declared.Level.the-variants.{First}
-use Rattle.rules.specs.Commands.{rows, theRow, groupSize}
+use Rattle.rules.specs.Commands.{vertexBuffersRow, rows, theRow, groupSize}
 use Rattle.rules.specs.Masks.{masksOf}
 use Rattle.plain_mi.proofs.OfGroups.{GroupRow, FieldRight, says-length, says-past, own-length, says-content, own-groups, header-kept, says-header}
 use Rattle.plain_3d.proofs.type_3.vertex_buffers.Statement.{statement}
 use Rattle.plain_3d.proofs.type_3.vertex_buffers.Tie as tie
 
-of-buffers : GroupRow 10 4 33 0x780800
+of-buffers : GroupRow vertexBuffersRow 4 33 0x780800
 unfolding rows theRow groupSize masksOf
 of-buffers = record { total = refl; of-size = refl; key = refl; mask = refl; known = omega arith }
 

@@ -5,14 +5,14 @@ use Prim.Native.Nat.{ℕ, _%_, _≤_}
 use native.Mathlib.Omega.{arith}
 use mathlib.Core.Path.{_≡_, refl, sym, _∙_}
 use Rattle.rules.specs.declared.Level.the-variants.{First}
-use Rattle.rules.specs.Commands.{rows, theRow, groupSize}
+use Rattle.rules.specs.Commands.{vertexElementsRow, rows, theRow, groupSize}
 use Rattle.rules.specs.Masks.{masksOf}
 use Rattle.plain_mi.specs.Plain.{noWindows}
 use Rattle.plain_mi.proofs.OfGroups.{GroupRow, FieldRight, says-length, says-past, own-length, says-content, own-groups, header-kept, says-header}
 use Rattle.plain_3d.proofs.type_3.vertex_elements.Statement.{statement}
 use Rattle.plain_3d.proofs.type_3.vertex_elements.Tie as tie
 
-of-elements : GroupRow 11 2 34 0x780900
+of-elements : GroupRow vertexElementsRow 2 34 0x780900
 unfolding rows theRow groupSize masksOf
 of-elements = record { total = refl; of-size = refl; key = refl; mask = refl; known = omega arith }
 
