@@ -1,36 +1,44 @@
 -- Laws of the decision by header: from what a row's function answers to what is seen of the command at a position, and to the look at it.
 -- Assumes nothing.
-use Prim.Native.Nat.{ℕ, _+_, _*_, _/_, _^_, _≤_, _<_}
+use Prim.Native.Nat.{ℕ, _+_, _-_, _*_, _/_, _%_, _^_, _≤_, _<_}
 use native.Mathlib.Omega.{arith}
 use mathlib.Core.Path.{_≡_, refl, sym, ap, _∙_}
-use mathlib.Core.Bool.{true, false, not, cond}
+use mathlib.Core.Bool.{Bool, true, false, not, cond}
 use mathlib.Core.List.{List, [], _∷_}
 use lib.ListN.{length, getD, take, drop, length-drop}
-use lib.Seq.{getD-drop}
-use lib.Dec.{leb, ltb}
-use borrow.Author.Tests.{eqb-true, ne-eqb, le-leb, lt-leb, not-false}
+use lib.Seq.{getD-drop, take-all}
+use lib.Dec.{leb, lit≤, lit<}
+use borrow.Author.Tests.{eqb-true, ne-eqb, leb-false, le-leb, lt-leb, not-false}
 use Rattle.rules.specs.declared.Windows.{Windows}
 use Rattle.rules.specs.declared.Level.{Level}
 use Rattle.rules.specs.declared.Level.the-variants.{First, Second}
 use Rattle.rules.specs.declared.Fault.{Fault}
 use Rattle.rules.specs.declared.Verdict.{Verdict}
 use Rattle.rules.specs.declared.Verdict.the-variants.{Pass, Fails}
-use Rattle.rules.specs.declared.Reason.the-variants.{WrongLength}
+use Rattle.rules.specs.declared.Reason.the-variants.{UnknownHeader, WrongLength}
+use Rattle.rules.specs.Words.{field}
 use Rattle.rules.specs.Refusals.{batchWindow, numberOf, fault, refuseIf}
-use Rattle.rules.specs.Commands.{noField, exactly, rows, theRow, rowFrom, rowOf, lengthOf, lengthRight, rowCount}
+use Rattle.rules.specs.Commands.{startRow, noField, exactly, rows, theRow, rowFrom, rowOf, lengthOf, lengthRight, rowCount}
 use Rattle.rules.specs.Uses.{noUse, accessOf}
 use Rattle.rules.specs.Masks.{allowedOf, allowedAt, bitWrong}
 use Rattle.rules.specs.Values.{noRule, ruleOf}
 use Rattle.rules.specs.Step.{headerAt, rowAt, lengthAt, nested}
 use Rattle.rules.proofs.Trying.{refuse-passes}
-use Rattle.looks.specs.Looks.{contentOf}
+use Rattle.looks.specs.declared.Look.the-variants.{Whole, Wrong}
+use Rattle.looks.specs.Looks.{contentOf, ownOf, lookOf}
 use Rattle.looks.proofs.LookLaws.{both-pass}
-use Rattle.plain_mi.specs.Plain.{wrongOf, bareOf, noWindows}
+use Rattle.plain_mi.specs.Plain.{coded, wrongOf, bareOf, noWindows}
 use Rattle.plain_mi.proofs.Bare.{bare}
-use Rattle.plain_mi.proofs.Bounds.{verdictOf, wrong-passes}
+use Rattle.plain_mi.proofs.Bounds.{AllNear, near-at, fault-near, verdictOf, verdict-near, Told, told, wrong-passes}
+use Rattle.plain_mi.proofs.Coding.{coded-passes}
 use Rattle.plain_mi.proofs.Headers.{one-dword}
+use Rattle.plain_mi.proofs.Placing.{placed, own-placed, told-placed}
 use Rattle.plain_3d.specs.declared.Seen.{Seen}
 use Rattle.plain_3d.specs.Seeing.{OfType3, Sees}
+
+-- what is left of a batch is all that comes behind a position
+pub rest-is : (batch : List ℕ) (at : ℕ) → take (length batch - at) (drop at batch) ≡ drop at batch
+rest-is batch at = take-all (length batch - at) (drop at batch) (omega (arith, length-drop at batch))
 
 pub header-first : (batch : List ℕ) (at : ℕ) → getD (drop at batch) 0 0 ≡ headerAt batch at
 header-first batch at = getD-drop at batch 0 0 ∙ ap (λ (i : ℕ). getD batch i 0) (omega arith)
@@ -46,6 +54,10 @@ pub by-key : (batch : List ℕ) (at : ℕ) {key r : ℕ} → OfType3 batch at �
 by-key batch at t e q = t ∙ ap (λ (k : ℕ). 7 + rowFrom (k * 2 ^ 16) (drop 7 rows)) e ∙ q
 
 -- the level counts for a start alone
+pub never-nested : (r : ℕ) (level : Level) → (r ≡ startRow → ⊥) → nested r level ≡ false
+never-nested r First n = refl
+never-nested r (Second back) n = ne-eqb r startRow n
+
 pub any-level : (w : Windows) (r : ℕ) (rest : List ℕ) (level : Level) → nested r level ≡ false
     → wrongOf w r rest level ≡ wrongOf w r rest First
 unfolding wrongOf contentOf
@@ -65,7 +77,9 @@ one-long r header e = rw e
 
 pub exactly-long : (r header f : ℕ) → theRow r .total ≡ exactly f → lengthRight r header ≡ true → f + 2 ≡ lengthOf r header
 unfolding lengthRight lengthOf
-exactly-long r header f e q = let right = eqb-true _ _ (rw e at q) in rw (e, right)
+exactly-long r header f e q =
+    let right : field header 7 0 ≡ f = eqb-true (field header 7 0) f (rw e at q) in
+    rw (e, right)
 
 -- what is seen of a command of a row, by what the row's function answers
 module _ (w : Windows) (batch : List ℕ) (at : ℕ) (level : Level) (r : ℕ) (known : r < rowCount) (e : rowAt batch at ≡ r) where
@@ -101,21 +115,16 @@ module _ (w : Windows) (batch : List ℕ) (at : ℕ) (level : Level) (r : ℕ) (
       → answer ≡ bareOf r (header ∷ []) → header ≡ headerAt batch at → at < length batch → theRow r .total ≡ noField → ruleOf r ≡ noRule
       → accessOf r ≡ noUse → nested r level ≡ false → Sees w batch at level s
   sees-alone s found says first h total rule uses n =
-      let there = omega (arith, length-drop at batch) in
+      let there : 0 < length (drop at batch) = omega (arith, length-drop at batch) in
       let header = ap (λ (x : ℕ). bareOf r (x ∷ [])) (first ∙ sym (header-first batch at)) in
       sees s (found .0) (λ q. found .1 ∙ one-long r (headerAt batch at) total)
       (found .2 ∙ says ∙ header ∙ header-alone w r (drop at batch) level total rule uses n there)
-
--- no command of type 3 is a start, so the level counts for none
-never-nested : (r : ℕ) (level : Level) → 7 ≤ r → nested r level ≡ false
-never-nested r First h = refl
-never-nested r (Second back) h = ne-eqb r 2 (λ e. omega arith)
 
 pub sees-at-level : (w : Windows) (batch : List ℕ) (at : ℕ) (level : Level) (s : Seen) → OfType3 batch at → Sees w batch at First s
     → Sees w batch at level s
 sees-at-level w batch at level s t p = record {
   wrong = p .wrong ∙ ap (λ (n : ℕ). cond (leb rowCount (rowAt batch at)) 1792 n)
-  (sym (any-level w (rowAt batch at) (drop at batch) level (never-nested (rowAt batch at) level (omega arith))));
+  (sym (any-level w (rowAt batch at) (drop at batch) level (never-nested (rowAt batch at) level (λ e. omega arith))));
   row = p .row;
   long = p .long;
 }
@@ -128,3 +137,50 @@ sees-nothing w batch at level s e u = record {
   row = λ z. absurd (omega arith);
   long = λ z. absurd (omega arith);
 }
+
+-- 7 to 13 of the command, with the place counted from its header: what is seen is their number, and the look is what they say at the position
+record Judged (w : Windows) (batch : List ℕ) (at : ℕ) (level : Level) (s : Seen) : Type 0 where
+  verdict : Verdict
+  number : s .wrong ≡ coded verdict
+  there : ownOf w batch at level ≡ placed at verdict
+  near : AllNear verdict
+
+module _ (w : Windows) (batch : List ℕ) (at : ℕ) (level : Level) (h : at < length batch) (s : Seen) (p : Sees w batch at level s) where
+  judged : Judged w batch at level s
+  unfolding coded wrongOf ownOf placed numberOf
+  judged = by (leb rowCount (rowAt batch at)) refl
+    where
+      by : (b : Bool) → leb rowCount (rowAt batch at) ≡ b → Judged w batch at level s
+      by true e = record {
+        verdict = Fails (fault UnknownHeader batchWindow 0);
+        number = p .wrong ∙ rw e;
+        there = rw e (ap (λ (i : ℕ). Fails (fault UnknownHeader batchWindow i)) (omega arith));
+        near = fault-near (near-at UnknownHeader 0 (lit≤ tt, lit< tt) (lit< tt));
+      }
+      by false e = record {
+        verdict = verdictOf w (rowAt batch at) (drop at batch) level;
+        number = p .wrong ∙ rw e;
+        there = own-placed w batch at level (leb-false _ _ e) (omega arith);
+        near = verdict-near w (rowAt batch at) (drop at batch) level (leb-false _ _ e);
+      }
+
+  pub look-whole : s .wrong ≡ 0 → Whole (s .row) (s .length) ≡ lookOf w batch at level
+  unfolding lookOf placed
+  look-whole z =
+      let passes = coded-passes (judged .verdict) (sym (judged .number) ∙ z) in
+      rw (p .row z, p .long z, judged .there, passes)
+
+  fault-told : (s .wrong ≡ 0 → ⊥) → Told (judged .verdict)
+  fault-told n = told (judged .verdict) (judged .near) (λ z. n (judged .number ∙ z))
+
+  pub answer-bounded : (s .wrong ≡ 0 → ⊥) → (7 * 256 ≤ s .wrong) × (s .wrong < 14 * 256)
+  answer-bounded n = rw (judged .number) (fault-told n .least, fault-told n .most)
+
+  pub look-wrong : (s .wrong ≡ 0 → ⊥) → (g : Fault) → (numberOf (g .reason) ≡ s .wrong / 256) × (g .window ≡ batchWindow) × (g .index ≡ at + s .wrong % 256)
+      → Wrong g ≡ lookOf w batch at level
+  unfolding lookOf
+  look-wrong n g e =
+      let same : Fails g ≡ placed at (judged .verdict) =
+      told-placed (judged .verdict) (fault-told n) at g (e .0 ∙ ap (λ (i : ℕ). i / 256) (judged .number)) (e .1)
+      (e .2 ∙ ap (λ (i : ℕ). at + i % 256) (judged .number)) in
+      rw (judged .there, ← same)

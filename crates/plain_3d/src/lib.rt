@@ -1,6 +1,6 @@
 // The plain engine: the checks 7 to 13 of the command at a position by a straight decision on its header, and each row's rules written out.
 ghost use mathlib.Core.Path.{_≡_};
-ghost use Prim.Native.Nat.{_+_, _^_, _<_};
+ghost use Prim.Native.Nat.{_<_};
 ghost use lib.ListN.{length, drop};
 ghost use Rattle.rules.specs.declared.Level.the-variants.{First};
 ghost use Rattle.looks.specs.Looks.{lookOf};
@@ -125,7 +125,7 @@ fn seen_of_type_3(batch: &[u32], at: usize, w: Windows) -> Seen
 
 // The checks 7 to 13 of the command at the position.
 pub fn looked(batch: &[u32], w: Windows, at: usize, level: Level) -> Look
-    requires { ⌜ (at < length (now batch)) × (at + 256 < 2 ^ 63) ⌝ }
+    requires { ⌜ at < length (now batch) ⌝ }
     ensures { λ r. ⌜ r ≡ lookOf w (now (batch .entry)) at level ⌝ }
 {
     let seen = seen_by_header(batch, at, w, level);
