@@ -124,7 +124,7 @@ pub sees-at-level : (w : Windows) (batch : List ℕ) (at : ℕ) (level : Level) 
     → Sees w batch at level s
 sees-at-level w batch at level s t p = record {
   wrong = p .wrong ∙ ap (λ (n : ℕ). cond (leb rowCount (rowAt batch at)) 1792 n)
-  (sym (any-level w (rowAt batch at) (drop at batch) level (never-nested (rowAt batch at) level (λ e. omega arith))));
+      (sym (any-level w (rowAt batch at) (drop at batch) level (never-nested (rowAt batch at) level (λ e. omega arith))));
   row = p .row;
   long = p .long;
 }

@@ -11,7 +11,7 @@ use Rattle.rules.specs.Commands.{baseRow, exactly, rows, theRow, groupSize}
 use Rattle.rules.specs.Uses.{usesByRow, accessOf}
 use Rattle.rules.specs.Masks.{masksOf, allowedOf, allowedAt, bitWrong}
 use Rattle.rules.specs.Values.{valueRules, ruleOf}
-use Rattle.plain_3d.specs.Codes.{strayFrom}
+use Rattle.plain_3d.specs.Stray.{strayFrom}
 use Rattle.plain_mi.proofs.Headers.{other-exact}
 use Rattle.plain_mi.proofs.Lengths.{listed, exact-past}
 use Rattle.plain_mi.proofs.Grouping.{first-in-order, former-says, latter-says}
