@@ -1,8 +1,9 @@
-// A cursor made anew from its parts, which the compiler takes apart.
+// Where a turn of the walk's loop stands: a cursor, made anew from its parts, which the compiler takes apart, and the number of its level.
 ghost use mathlib.Core.Path.{_≡_};
 ghost use lib.Dec.{eqb};
 ghost use Rattle.rules.specs.Step.{levelNumber};
 ghost use Rattle.walk.specs.Lent.{keptAt};
+use onward::level_number;
 use rules::Base;
 use rules::Cursor;
 use rules::Level;
@@ -48,7 +49,7 @@ fn fresh_base(base: Base) -> Base
 
 // The cursor, made anew from its parts. A copy would carry the bytes between an enum's tag and its number from turn to turn, which costs
 // more than the step itself; made anew, they are never written.
-pub fn fresh(s: Cursor) -> Cursor
+fn fresh(s: Cursor) -> Cursor
     ensures { λ r. ⌜ r ≡ s ⌝ }
 {
     let level = s.level;
@@ -57,5 +58,23 @@ pub fn fresh(s: Cursor) -> Cursor
         at: s.at,
         level: fresh_level(level),
         base: fresh_base(base),
+    }
+}
+
+// The level's number is for the record of the command at the cursor. Taken here, and not where the record is made, it spares the compiler
+// keeping this turn's level beside the next one's, in every command.
+pub struct Turn {
+    pub cursor: Cursor,
+    pub level: usize,
+}
+
+pub fn turn_at(s: Cursor) -> Turn
+    ensures { λ r. ⌜ (r .cursor ≡ s) × (r .level ≡ levelNumber (r .cursor .level)) ⌝ }
+{
+    let cursor = fresh(s);
+    let level = cursor.level;
+    Turn {
+        cursor,
+        level: level_number(level),
     }
 }
