@@ -1,5 +1,5 @@
 /*
- * The proved checker against the second opinion.
+ * Both engines of the proved checker against the second opinion.
  *   harness N SEED          document 01's cases and the sweeps, then N captures and files made from SEED
  *   harness N SEED CASE     only that one of the N, and shows it
  * Exit status 1 at the first difference, or where a number was met too rarely for the comparison to say much of it.
@@ -49,6 +49,12 @@ static void lend_room(struct room *r, size_t len, struct dice *d)
 {
     for (size_t i = 0; i < GUARD + len + GUARD; i++)
         r->proved[i] = r->other[i] = r->before[i] = (uint32_t)(dice_roll(d) >> 32);
+}
+
+/* The proved side's words are again as they were before, for another engine. */
+static void lend_again(struct room *r, size_t len)
+{
+    for (size_t i = 0; i < GUARD + len + GUARD; i++) r->proved[i] = r->before[i];
 }
 
 /* Both sides left the same words, and all but the first `written` are those that were lent. */
@@ -140,10 +146,17 @@ static struct lungevati_answer ask(check_call *check, const struct capture *c, u
                  c->scratch_at, c->scratch_len, recs + GUARD, c->records_len);
 }
 
-static int same_answer(struct lungevati_answer p, struct lungevati_answer o)
+/* The proved engines. */
+static const struct engine {
+    const char *name, *records;
+    check_call *check;
+} engines[] = {{"plain", "the plain engine's records", lungevati_check}, {"table", "the table engine's records", lungevati_check_table}};
+enum { ENGINES = sizeof engines / sizeof engines[0] };
+
+static int same_answer(const char *engine, struct lungevati_answer p, struct lungevati_answer o)
 {
     if (p.reason == o.reason && p.window == o.window && p.index == o.index && p.count == o.count) return 1;
-    printf("DIFFERENT: check: proved reason %u window %u index %u count %u, other reason %u window %u index %u count %u\n",
+    printf("DIFFERENT: check: %s engine reason %u window %u index %u count %u, other reason %u window %u index %u count %u\n", engine,
            p.reason, p.window, p.index, p.count, o.reason, o.window, o.index, o.count);
     return 0;
 }
@@ -157,9 +170,13 @@ int same_check(const struct capture *c, uint64_t seed, struct tally *t)
     lend_words(lent_state, c->state, c->state_len, &d);
     lend_room(&records, c->records_len, &d);
 
-    struct lungevati_answer p = ask(lungevati_check, c, records.proved), o = ask(other_check, c, records.other);
+    struct lungevati_answer o = ask(other_check, c, records.other);
     last_answer = o;
-    if (!same_answer(p, o) || !same_room(&records, "records", c->records_len, o.count)) return 0;
+    for (uint32_t e = 0; e < ENGINES; e++) {
+        lend_again(&records, c->records_len);
+        if (!same_answer(engines[e].name, ask(engines[e].check, c, records.proved), o)) return 0;
+        if (!same_room(&records, engines[e].records, c->records_len, o.count)) return 0;
+    }
     if (!unchanged(lent_batch, c->batch, c->batch_len) || !unchanged(lent_state, c->state, c->state_len)) {
         printf("DIFFERENT: a lent window was written\n");
         return 0;

@@ -34,14 +34,28 @@ kit_run() {
     $kit_emulator "$kit_tools/lib/ld-linux-x86-64.so.2" --library-path "$kit_tools/lib" "$@"
 }
 
-# kit_archive LOG: proves and builds the library with the calls of include/lungevati.h, target/staticlib/libapi.a
-kit_archive() {
-    (cd "${top:?}" && rt staticlib api) >"$1" 2>&1 || { cat "$1" >&2; exit 2; }
+# kit_archives LOG: proves and builds the libraries with the calls of include/lungevati.h, one for each engine; kit_calls is what to link
+kit_archives() {
+    (cd "${top:?}" && rt staticlib api && rt staticlib api_table) >"$1" 2>&1 || { cat "$1" >&2; exit 2; }
+    kit_calls="$top/target/staticlib/libapi.a $top/target/staticlib/libapi_table.a"
 }
 
-# kit_self OBJECT [FLAG...]: the second opinion itself under the names of the proved calls
-kit_self() {
-    kit_object=$1
+# kit_as ENGINE OBJECT SOURCE [FLAG...]: a checker in C under the names of the proved calls, in the place of the engine plain or table
+kit_as() {
+    case $1 in
+        plain) kit_names='-Dother_check=lungevati_check -Dother_read=lungevati_read' ;;
+        table) kit_names='-Dother_check=lungevati_check_table -Dother_read=unused_read' ;;
+    esac
     shift
-    kit_compile "$kit_object" "${top:?}/compare/checker.c" -Dother_check=lungevati_check -Dother_read=lungevati_read "$@"
+    # shellcheck disable=SC2086 # two words
+    kit_compile "$@" $kit_names
+}
+
+# kit_self FOLDER [FLAG...]: the second opinion itself in the place of both engines
+kit_self() {
+    kit_folder=$1
+    shift
+    kit_as plain "$kit_folder/self.o" "${top:?}/compare/checker.c" "$@" || return
+    kit_as table "$kit_folder/self_table.o" "$top/compare/checker.c" "$@" || return
+    kit_calls="$kit_folder/self.o $kit_folder/self_table.o"
 }

@@ -1,5 +1,6 @@
 /*
- * Lungevati from C: the proved checker of captured GPU command buffers (archive libapi.a, made by `rt staticlib api`).
+ * Lungevati from C: the proved checker of captured GPU command buffers. Archive libapi.a, made by `rt staticlib api`, has lungevati_check and
+ * lungevati_read; libapi_table.a, made by `rt staticlib api_table`, has lungevati_check_table. Both link into one program.
  *
  * The numbers, places and rules are those of document 01. A reason is 0 (accepted, or read) or one of its refusal numbers.
  * Each call returns whatever comes in, allocates nothing and keeps nothing between calls.
@@ -56,6 +57,16 @@ struct lungevati_answer lungevati_check(const uint32_t *batch, size_t batch_len,
                                         const uint32_t *state, size_t state_len, uint64_t state_at,
                                         uint64_t scratch_at, uint32_t scratch_len,
                                         uint32_t *records, size_t records_len);
+
+/*
+ * The same question, asked of the table engine: the same answer and the same records for every capture, which is proved, from other code. The plain
+ * engine behind lungevati_check decides by each command's header and has its rules written out; this one looks every dword up in a table. It
+ * takes two to three times as long, and is for whoever wants a second way to the answer.
+ */
+struct lungevati_answer lungevati_check_table(const uint32_t *batch, size_t batch_len, uint64_t batch_at,
+                                              const uint32_t *state, size_t state_len, uint64_t state_at,
+                                              uint64_t scratch_at, uint32_t scratch_len,
+                                              uint32_t *records, size_t records_len);
 
 /* What a capture file holds. On a refusal all but the reason is 0. */
 struct lungevati_contents {

@@ -7,7 +7,7 @@ use rules::Answer;
 use rules::Opened;
 use rules::faults::number;
 
-// Checks a capture: `walk::check`, with its promise.
+// Checks a capture by the plain engine: `plain::check`, with its promise.
 #[no_mangle]
 pub extern "C" fn lungevati_check<'a>(
     batch: &'a [u32],
@@ -20,7 +20,7 @@ pub extern "C" fn lungevati_check<'a>(
 ) -> Answer
     ensures { λ r. ⌜ Checked startingBase (lentCapture (now (batch .entry)) «batch_at» (now (state .entry)) «state_at» «scratch_at» «scratch_len») (now (records .entry)) r (now (records .exit)) ⌝ }
 {
-    walk::check(
+    plain::check(
         batch,
         batch_at,
         state,

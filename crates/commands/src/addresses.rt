@@ -4,7 +4,6 @@ ghost use mathlib.Core.List.{[], _∷_};
 ghost use Prim.Native.Nat.{_-_, _<_};
 ghost use lib.ListN.{length, getD};
 ghost use Rattle.rules.specs.Uses.{startUse, storeUse, storeRegisterUse, loadRegisterUse, pipeUse, vertexBufferUse, indexBufferUse, accessOf, sized};
-use crate::dwords::dword;
 use rules::Access;
 use rules::Within;
 use rules::names::BASE_ROW;
@@ -24,6 +23,7 @@ use rules::names::TOPOLOGY_ROW;
 use rules::names::VERTEX_BUFFERS_ROW;
 use rules::names::VERTEX_ELEMENTS_ROW;
 use rules::names::VIEWPORT_ROW;
+use words::dwords::dword;
 
 fn start_use(j: usize) -> Access
     ensures { λ r. ⌜ r ≡ startUse [] 0 j 0 ⌝ }

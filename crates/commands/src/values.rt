@@ -5,7 +5,6 @@ ghost use Prim.Native.Nat.{_<_};
 ghost use lib.ListN.{length, getD};
 ghost use Rattle.rules.specs.Formats.{surfaceFormats};
 ghost use Rattle.rules.specs.Values.{startRule, registerRule, storeRule, pipeRule, vertexBufferRule, afterZero, componentsWrong, vertexElementRule, indexBufferRule, topologyRule, primitiveRule, ruleOf};
-use crate::dwords::dword;
 use rules::names::BASE_ROW;
 use rules::names::COLOUR_ROW;
 use rules::names::END_ROW;
@@ -23,6 +22,7 @@ use rules::names::TOPOLOGY_ROW;
 use rules::names::VERTEX_BUFFERS_ROW;
 use rules::names::VERTEX_ELEMENTS_ROW;
 use rules::names::VIEWPORT_ROW;
+use words::dwords::dword;
 
 fn start_wrong(j: usize, word: u32) -> bool
     ensures { λ r. ⌜ r ≡ startRule [] 0 j word ⌝ }

@@ -27,10 +27,23 @@ pub(crate) fn answer(a: Answer) {
     byte(b';');
 }
 
+fn same(a: Answer, b: Answer) -> bool {
+    let same_place = (a.window == b.window) & (a.index == b.index);
+    (a.reason == b.reason) & same_place & (a.count == b.count)
+}
+
+// The answers of both engines, the table's first, where they or the records that they wrote are not the same.
+pub(crate) fn unlike(table: Answer, plainly: Answer, same_records: bool) {
+    if !(same(table, plainly) & same_records) {
+        byte(b'!');
+        answer(table);
+        answer(plainly);
+    }
+}
+
 // The answer from a value on, unless it is the one before it. Answers what comes before the next.
 pub(crate) fn found(x: u32, a: Answer, before: Answer) -> Answer {
-    let same_place = (a.window == before.window) & (a.index == before.index);
-    if !((a.reason == before.reason) & same_place & (a.count == before.count)) {
+    if !same(a, before) {
         hex(x);
         answer(a);
     }

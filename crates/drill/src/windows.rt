@@ -70,8 +70,37 @@ fn address(place: u32, words: &[u32; WORDS]) -> u64 {
     (high << 32) | low
 }
 
-// Asks the checker about the capture that the words make, with no more lent to it than the capture has. Aloud, the answer is printed, and
-// every record word lent.
+// The addresses of the capture's windows, and the bytes of scratch.
+struct Places {
+    batch: u64,
+    state: u64,
+    scratch: u64,
+    bytes: u32,
+}
+
+fn places_of(words: &[u32; WORDS]) -> Places {
+    Places {
+        batch: address(BATCH_AT, words),
+        state: address(STATE_AT, words),
+        scratch: address(SCRATCH_AT, words),
+        bytes: get(SCRATCH_BYTES, words),
+    }
+}
+
+// Whether two buffers have the same first n words.
+fn alike(a: &[u32; LENT], b: &[u32; LENT], n: usize) -> bool {
+    let mut i = 0;
+    while i < n && i < LENT {
+        if a[i] != b[i] {
+            return false;
+        }
+        i += 1;
+    }
+    true
+}
+
+// Asks both engines about the capture that the words make, with no more lent to them than the capture has. Where they do not answer alike, both
+// answers are printed; aloud, the answer is, and every record word lent.
 pub(crate) fn ask(aloud: bool, words: &[u32; WORDS]) -> Answer {
     let all: &[u32] = words;
     let room = ROOM as usize;
@@ -79,17 +108,29 @@ pub(crate) fn ask(aloud: bool, words: &[u32; WORDS]) -> Answer {
     let batch = &all[..dwords];
     let end = room + at_most(room, STATE_DWORDS, words);
     let state = &all[room..end];
+    let at = places_of(words);
     let lent = at_most(LENT, RECORD_WORDS, words);
     let mut records = [UNWRITTEN; LENT];
+    let mut twin = [UNWRITTEN; LENT];
     let answer = walk::check(
         batch,
-        address(BATCH_AT, words),
+        at.batch,
         state,
-        address(STATE_AT, words),
-        address(SCRATCH_AT, words),
-        get(SCRATCH_BYTES, words),
+        at.state,
+        at.scratch,
+        at.bytes,
         &mut records[..lent],
     );
+    let plainly = plain::check(
+        batch,
+        at.batch,
+        state,
+        at.state,
+        at.scratch,
+        at.bytes,
+        &mut twin[..lent],
+    );
+    sayings::unlike(answer, plainly, alike(&records, &twin, lent));
     if aloud {
         sayings::answer(answer);
         sayings::words(&records, get(RECORD_WORDS, words));

@@ -4,7 +4,6 @@ ghost use Prim.Native.Nat.{_-_, _/_};
 ghost use Rattle.rules.specs.Uses.{addressAt};
 ghost use Rattle.rules.specs.Step.{afterEnd, levelAfterStart, baseAfter, levelNumber};
 ghost use Rattle.onward.specs.Onward.{moveFrom};
-use commands::dwords::dword;
 use rules::After;
 use rules::Base;
 use rules::Cursor;
@@ -12,6 +11,7 @@ use rules::Level;
 use rules::names::BASE_ROW;
 use rules::names::END_ROW;
 use rules::names::START_ROW;
+use words::dwords::dword;
 
 pub fn level_number(level: Level) -> usize
     ensures { λ r. ⌜ r ≡ levelNumber level ⌝ }

@@ -6,6 +6,7 @@ pub mod Ranges
 pub mod Storing
 pub mod Moving
 pub mod Tables
+pub mod Keys
 pub mod Running
 pub mod Depths
 pub mod Unique

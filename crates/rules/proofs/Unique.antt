@@ -53,7 +53,7 @@ unfolding answerOf
 count-is run = count-told (endOf run) (length (commandsOf run))
 
 -- no refusal has number 0, so the reason says whether a run was accepted
-above-zero : (r : Reason) → 0 < numberOf r
+pub above-zero : (r : Reason) → 0 < numberOf r
 unfolding numberOf
 above-zero WrongCounts = lit< tt
 above-zero AddressUnaligned = lit< tt

@@ -14,7 +14,7 @@ use Rattle.rules.specs.declared.Windows.{Windows}
 use Rattle.rules.specs.Words.{inGroup, firstFrom, firstOf}
 use Rattle.rules.specs.Commands.{rows, theRow, groupSize, rowCount}
 use Rattle.rules.specs.Masks.{masksOf}
-use Rattle.rules.proofs.Searching.{search-passes, search-stops}
+use Rattle.rules.proofs.Searching.{search-passes, search-stops, finds-none}
 use Rattle.rules.proofs.Tables.{each, at-each}
 use Rattle.search.specs.declared.Sought.{Sought}
 use Rattle.rows.specs.Masks.{maskRows, maskTable}
@@ -96,3 +96,14 @@ some-size (suc size) len n h = omega arith
 
 pub left-at : {bad : ℕ → Bool} {len k j : ℕ} → k ≡ j → Left bad len k → Left bad len j
 left-at {bad} {len} e l = subst (λ (i : ℕ). Left bad len i) e l
+
+-- what is nowhere wrong is not found: a row without a rule, or without an address
+pub finds-nothing : (what : Sought) (w : Windows) (r : ℕ) (d : List ℕ) → ((k j : ℕ) → wrongAt what w r d k j ≡ false)
+    → Nothing ≡ firstOf (wrong what w r d) (length d)
+unfolding wrong
+finds-nothing what w r d never = sym (finds-none (wrong what w r d) 0 (length d) (λ k from below. never k (inGroup (groupSize r) k)))
+
+-- what a search requires of its row, with the row's number written out
+pub written-out : {r s len : ℕ} {P Q : Type 0} → r ≡ s → (r < rowCount) × (groupSize r ≡ 0 → len ≤ 1) × P × Q
+    → (s < rowCount) × (groupSize s ≡ 0 → len ≤ 1) × P × Q
+written-out {len = len} {P} {Q} e h = subst (λ (i : ℕ). (i < rowCount) × (groupSize i ≡ 0 → len ≤ 1) × P × Q) e h

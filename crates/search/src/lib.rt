@@ -10,16 +10,19 @@ ghost use Rattle.rules.specs.Masks.{allowedOf};
 ghost use Rattle.rows.specs.Masks.{maskTable};
 ghost use Rattle.search.specs.Search.{wrongAt, wrong};
 use commands::addresses::access_of;
-use commands::dwords::address_at;
 use commands::values::value_wrong;
 use rows::group_size;
 use rules::Found;
 use rules::Windows;
 use rules::names::ROWS;
 use windows::access_wrong;
+use words::dwords::address_at;
+
+mod by_row;
+pub mod looked;
 
 // What a search over a command's dwords looks for: a bit that is not allowed (10), a value rule broken (12), a range that does not fit (13).
-pub enum Sought {
+enum Sought {
     Bits,
     Values,
     Ranges,
@@ -58,7 +61,7 @@ fn wrong_at(
 }
 
 // The first dword of the command that is what is looked for. The tables are lent, since naming a constant here would copy it.
-pub fn first_wrong(
+fn first_wrong(
     what: Sought,
     w: Windows,
     row: usize,

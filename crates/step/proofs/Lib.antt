@@ -1,3 +1,2 @@
-pub mod Contents
-pub mod LookLaws
+pub mod Structural
 pub mod Ways

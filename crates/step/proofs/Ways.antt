@@ -1,16 +1,14 @@
 -- The ways out of one step, over the numbers that the code has at each.
 -- Assumes nothing.
 use Prim.Native.Nat.{ℕ, _+_, _-_, _≤_, _<_}
-use native.Mathlib.Nat.{add-sub-cancel-left}
 use native.Mathlib.Omega.{arith}
 use mathlib.Core.Path.{_≡_, refl, sym, ap, _∙_}
-use mathlib.Core.Bool.{Bool, true, false, _||_}
+use mathlib.Core.Bool.{Bool, true, false}
 use mathlib.Core.List.{List, [], _∷_}
-use mathlib.Core.Logic.{⊎-elim}
-use lib.ListN.{length, take, drop, length-take, length-drop}
+use lib.ListN.{length, take, drop, length-drop}
 use lib.Dec.{ltb}
 use lib.Seq.{length-take-le}
-use borrow.Author.Tests.{ltb-true, ltb-false, le-leb, lt-leb}
+use borrow.Author.Tests.{ltb-false, le-leb, lt-leb}
 use Rattle.rules.specs.declared.Windows.{Windows}
 use Rattle.rules.specs.declared.Cursor.{Cursor}
 use Rattle.rules.specs.declared.Pointer.{Pointer}
@@ -21,17 +19,16 @@ use Rattle.rules.specs.declared.Verdict.the-variants.{Pass, Fails}
 use Rattle.rules.specs.declared.Reason.the-variants.{RanOff, PastTheWindow}
 use Rattle.rules.specs.Refusals.{batchWindow, fault, refuseIf, tried, firstFault}
 use Rattle.rules.specs.Windows.{Capture, windowsOf}
-use Rattle.rules.specs.Commands.{Length, noField, exactly, byBit, groups, rows, theRow, dwordCount, lengthOf, groupSize, rowCount, lengthRight}
 use Rattle.rules.specs.Structures.{structureNowhere, structureBit, structureValue, structureChecks}
-use Rattle.rules.specs.Step.{Here, here, headerAt, rowAt, lengthAt, dwordsAt, pointerOf, ofStructure, levelNumber, moveOf, commandAt, stepOf}
+use Rattle.rules.specs.Step.{Here, here, rowAt, lengthAt, dwordsAt, pointerOf, ofStructure, levelNumber, moveOf, commandAt, stepOf}
 use Rattle.rules.specs.Step.{ranOff, unknownHeader, wrongLength, pastTheWindow, bitNotAllowed, nestedStart, valueBroken, rangeOutside, baseNeverSet, stepChecks}
-use Rattle.rules.proofs.Searching.{or-cases}
-use Rattle.rules.proofs.Tables.{each, at-each}
 use Rattle.rules.proofs.Stepping.{moveAt, takes, refuses}
+use Rattle.looks.specs.Looks.{orElse, contentOf, ownOf, lookOf}
+use Rattle.looks.specs.declared.Look.the-variants.{Wrong}
+use Rattle.looks.proofs.LookLaws.{dwords-are, own-wrong, Looked}
 use Rattle.onward.specs.Onward.{moveFrom}
-use Rattle.step.specs.Parts.{captured, Fitted, orElse, contentOf, structuralOf}
-use Rattle.step.specs.Looks.{ownOf}
-use Rattle.step.proofs.Contents.{tried-or}
+use Rattle.step.specs.Parts.{captured, Fitted, structuralOf}
+use Rattle.step.proofs.Structural.{tried-or}
 
 -- the numbers of the windows are those of the capture
 pub fitted : {w : Windows} {batch state : List ℕ} → Fitted w batch state → windowsOf (captured w batch state) ≡ w
@@ -146,19 +143,6 @@ unfolding moveFrom moveOf windowsOf
 moved c s r d next = refl
 
 -- the code's numbers are those of the definitions: the row, the length, and the command's own dwords
-pub length-is : (batch : List ℕ) (at : ℕ) {row len : ℕ} → row ≡ rowAt batch at → len ≡ lengthOf row (headerAt batch at)
-    → len ≡ lengthAt batch at
-length-is batch at er el = el ∙ ap (λ (r : ℕ). lengthOf r (headerAt batch at)) er
-
-pub right-is : (batch : List ℕ) (at : ℕ) {row : ℕ} {t u : Bool} → row ≡ rowAt batch at → t ≡ lengthRight row (headerAt batch at)
-    → t ≡ u → lengthRight (rowAt batch at) (headerAt batch at) ≡ u
-right-is batch at er et e = ap (λ (r : ℕ). lengthRight r (headerAt batch at)) (sym er) ∙ sym et ∙ e
-
-pub dwords-are : (batch : List ℕ) (at : ℕ) {len : ℕ} → len ≡ lengthAt batch at
-    → take (at + len - at) (drop at batch) ≡ dwordsAt batch at
-unfolding dwordsAt
-dwords-are batch at e = rw (add-sub-cancel-left, e)
-
 module _ {w : Windows} {batch state : List ℕ} (s : Cursor) {row len : ℕ} (f : Fitted w batch state) (er : row ≡ rowAt batch (s .at)) (el : len ≡ lengthAt batch (s .at)) where
   pub structural-is : {p : Pointer} → p ≡ pointerOf row (take (s .at + len - s .at) (drop (s .at) batch))
       → structuralOf (captured w batch state) (s .at + 1) p (s .base) ≡ structural (captured w batch state) s
@@ -170,39 +154,11 @@ module _ {w : Windows} {batch state : List ℕ} (s : Cursor) {row len : ℕ} (f 
   unfolding commandAt
   taken-is = rw (dwords-are batch (s .at) el, er, el, moved (captured w batch state))
 
--- a row without groups is one dword long
-isOne : Length → Bool
-isOne noField = true
-isOne (exactly f) = false
-isOne (byBit b f g) = false
-isOne (groups n) = false
+-- what the look at a command tells of the step
+module _ {w : Windows} {batch state : List ℕ} (s : Cursor) (f : Fitted w batch state) where
+  pub own-passes : {row len : ℕ} → Looked w batch (s .at) (s .level) row len → own (captured w batch state) s ≡ Pass
+  own-passes l = rw (fitted f) (l .own)
 
-one-counted : (t : Length) (header : ℕ) → isOne t ≡ true → dwordCount t header ≡ 1
-unfolding isOne
-one-counted noField header e = refl
-one-counted (exactly f) header e = cc
-one-counted (byBit b f g) header e = cc
-one-counted (groups n) header e = cc
-
-groupless-tested : each (λ r. ltb 0 (groupSize r) || isOne (theRow r .total)) rowCount ≡ true
-unfolding each rows theRow groupSize isOne
-groupless-tested = refl
-
-pub groupless : (r header : ℕ) → r < rowCount → groupSize r ≡ 0 → lengthOf r header ≡ 1
-unfolding lengthOf
-groupless r header h e =
-    one-counted (theRow r .total) header
-    (⊎-elim (λ t. absurd (omega (arith, ltb-true 0 (groupSize r) t))) (λ t. t)
-    (or-cases (ltb 0 (groupSize r)) _ (at-each (λ k. ltb 0 (groupSize k) || isOne (theRow k .total)) rowCount groupless-tested r h)))
-
--- so that the search's groups have dwords
-pub short : (batch : List ℕ) (at : ℕ) {row len : ℕ} → row < rowCount → len ≡ lengthOf row (headerAt batch at) → groupSize row ≡ 0
-    → length (take (at + len - at) (drop at batch)) ≤ 1
-short batch at {row} {len} h el e =
-    let n = groupless row (headerAt batch at) h e in
-    omega (arith, length-take (at + len - at) (drop at batch))
-
--- and the command's end is no more than the batch's
-pub part-below : (batch : List ℕ) (at len : ℕ) → at + len ≤ length batch
-    → at + length (take (at + len - at) (drop at batch)) ≤ length batch
-part-below batch at len h = omega (arith, length-take (at + len - at) (drop at batch))
+  pub looked-wrong : {g : Fault} → s .at < length batch → lookOf w batch (s .at) (s .level) ≡ Wrong g
+      → Refused g ≡ stepOf (captured w batch state) s
+  looked-wrong a e = own-fails (captured w batch state) s a (rw (fitted f) (own-wrong w batch (s .at) (s .level) e))

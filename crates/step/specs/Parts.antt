@@ -1,24 +1,19 @@
--- One step in the parts that the code has: what the command's own dwords give (10 to 13), and what its structure gives (14 to 17).
+-- What a step is about: the capture that is lent to it, and what a command's structure gives (14 to 17).
 use Prim.Native.Nat.{ℕ, _*_, _^_, _≤_}
 use mathlib.Core.Path.{_≡_}
 use mathlib.Core.List.{List}
 use lib.ListN.{length}
 use Rattle.rules.specs.declared.Windows.{Windows}
-use Rattle.rules.specs.declared.Level.{Level}
 use Rattle.rules.specs.declared.Base.{Base}
 use Rattle.rules.specs.declared.Base.the-variants.{Set}
 use Rattle.rules.specs.declared.Pointer.{Pointer}
 use Rattle.rules.specs.declared.Verdict.{Verdict}
-use Rattle.rules.specs.declared.Verdict.the-variants.{Pass, Fails}
-use Rattle.rules.specs.declared.Reason.the-variants.{BitNotAllowed, NestedStart, ValueBroken, RangeOutside, BaseNeverSet}
-use Rattle.rules.specs.Words.{firstOf}
-use Rattle.rules.specs.Refusals.{batchWindow, fault, refuseIf, refuseFound}
+use Rattle.rules.specs.declared.Reason.the-variants.{BaseNeverSet}
+use Rattle.rules.specs.Refusals.{batchWindow, fault, refuseIf}
 use Rattle.rules.specs.Windows.{Capture}
-use Rattle.rules.specs.Masks.{bitWrong}
-use Rattle.rules.specs.Values.{valueWrong}
-use Rattle.rules.specs.Addresses.{rangeWrong}
 use Rattle.rules.specs.Structures.{structureNowhere, structureBit, structureValue}
-use Rattle.rules.specs.Step.{nested, baseMissing, pointed}
+use Rattle.rules.specs.Step.{baseMissing, pointed}
+use Rattle.looks.specs.Looks.{orElse}
 
 -- the capture that the windows' numbers and the two lent windows are
 abbrev pub captured : Windows → List ℕ → List ℕ → Capture
@@ -35,19 +30,6 @@ captured w batch state = record {
 pub record Fitted (w : Windows) (batch state : List ℕ) : Type 0 where
   pub batchBytes : w .batch .bytes ≡ 4 * length batch
   pub stateBytes : w .state .bytes ≡ 4 * length state
-
--- one verdict, and the next only where it passes
-abbrev pub orElse : Verdict → Verdict → Verdict
-orElse Pass later = later
-orElse (Fails f) later = Fails f
-
--- 10 to 13, of a command's dwords
-unfoldable pub contentOf : Windows → ℕ → List ℕ → ℕ → Level → Verdict
-contentOf w r d at level =
-    orElse (refuseFound BitNotAllowed batchWindow at (firstOf (bitWrong r d) (length d)))
-    (orElse (refuseIf (nested r level) (fault NestedStart batchWindow at))
-    (orElse (refuseFound ValueBroken batchWindow at (firstOf (valueWrong r d) (length d)))
-    (refuseFound RangeOutside batchWindow at (firstOf (rangeWrong w r d) (length d)))))
 
 -- 14 to 17, of the structure that a command points to
 unfoldable pub structuralOf : Capture → ℕ → Pointer → Base → Verdict

@@ -6,14 +6,15 @@ ghost use Rattle.rules.specs.declared.Outcome.the-variants.{Refused};
 ghost use Rattle.rules.specs.Refusals.{fault, batchWindow};
 ghost use Rattle.rules.specs.Formats.{surfaceFormats};
 ghost use Rattle.rules.specs.Step.{stepOf};
+ghost use Rattle.rows.specs.Masks.{maskTable};
 ghost use Rattle.step.specs.Parts.{captured, Fitted, SmallBase};
+use engines::looked;
 use faults::pointer_of;
 use faults::structure_fault;
+use looks::Engine;
 use looks::Look;
-use looks::looked;
 use onward::level_number;
 use onward::move_of;
-use rows::row_of;
 use rules::Command;
 use rules::Cursor;
 use rules::Outcome;
@@ -21,9 +22,10 @@ use rules::Reason;
 use rules::Verdict;
 use rules::Windows;
 use rules::faults::in_batch;
+use rules::names::ROWS;
 
+mod engines;
 mod faults;
-pub mod looks;
 
 // A refusal at the header.
 fn refused(reason: Reason, index: usize) -> Outcome
@@ -32,15 +34,17 @@ fn refused(reason: Reason, index: usize) -> Outcome
     Outcome::Refused(in_batch(reason, index))
 }
 
-// One step of the walk: the first fault of the command at the cursor (6 to 17), or the command and where it leads.
+// One step of the walk: the first fault of the command at the cursor (6 to 17), or the command and where it leads. By either engine.
 pub fn step<'a>(
+    engine: Engine,
     batch: &'a [u32],
     state: &'a [u32],
     w: Windows,
     s: Cursor,
+    masks: &[[u32; 16]; ROWS],
     formats: &[u16; 512],
 ) -> Outcome
-    requires { ⌜ (Fitted w (now batch) (now state)) × (SmallBase (s .base)) × (now formats ≡ surfaceFormats) ⌝ }
+    requires { ⌜ (Fitted w (now batch) (now state)) × (SmallBase (s .base)) × (now masks ≡ maskTable) × (now formats ≡ surfaceFormats) ⌝ }
     ensures { λ r. ⌜ r ≡ stepOf (captured w (now (batch .entry)) (now (state .entry))) s ⌝ }
 {
     let at = s.at;
@@ -49,10 +53,9 @@ pub fn step<'a>(
     if batch.len() <= at {
         return refused(Reason::RanOff, at);
     }
-    let row = row_of(batch[at]);
-    match looked(batch, w, row, at, level, formats) {
+    match looked(engine, batch, w, at, level, masks, formats) {
         Look::Wrong(f) => Outcome::Refused(f),
-        Look::Whole(length) => {
+        Look::Whole(row, length) => {
             let next = at + length;
             let command = &batch[at..next];
             let pointer = pointer_of(row, command);

@@ -189,3 +189,10 @@ module _ (v w : ℕ) (v32 : v < 2 ^ 32) (w32 : w < 2 ^ 32) where
 
   pub in-rank : isNan v ≡ false → isNan w ≡ false → leb (rankOf (leb sign v) v) (rankOf (leb sign w) w) ≡ atMost v w
   in-rank n k = by-sign _ _ refl refl ∙ sym (in-order _ _ (of-bits v n) (of-bits w k))
+
+at-most-itself : (v : ℕ) → v < 2 ^ 32 → isNan v ≡ false → atMost v v ≡ true
+at-most-itself v v32 n = let r : ℕ = rankOf (leb sign v) v in sym (in-rank v v v32 v32 n n) ∙ le-leb r r (omega arith)
+
+-- and bits that are the same need no rank
+pub same-bits : (v w : ℕ) → w < 2 ^ 32 → isNan w ≡ false → v ≡ w → eqb v w ≡ atMost v w
+same-bits v w w32 n e = rw e (eq-eqb w w refl ∙ sym (at-most-itself w w32 n))

@@ -38,8 +38,8 @@ module _ (batch : List ℕ) (batchAt : ℕ) (state : List ℕ) (stateAt : ℕ) (
   pub reading-is : {n : ℕ} {held : Held} {d : List ℕ} {v : Verdict}
       → n ≡ layoutOf kind .dwords
       → held ≡ heldAt (lent batchAt (length batch)) (lent stateAt (length state)) address n
-      → d ≡ partOf batch state n (heldAt (lent batchAt (length batch)) (lent stateAt (length state)) address n)
+      → d ≡ partOf batch state n held
       → v ≡ firstFault structureChecks (record { kind = kind; held = held; dwords = d; pointer = pointer })
       → readingOf v kind d ≡ readAt batch batchAt state stateAt kind address pointer
   unfolding readAt
-  reading-is n h d v = rw (v, h, d, n)
+  reading-is n h d v = rw (v, d, h, n)

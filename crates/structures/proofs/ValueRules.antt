@@ -2,7 +2,7 @@
 -- Assumes nothing.
 use Prim.Native.Nat.{ℕ, _≤_, _<_}
 use mathlib.Core.Path.{_≡_, refl, sym, _∙_, subst⁻¹}
-use mathlib.Core.Bool.{Bool, true, false, not, _&&_, and-self}
+use mathlib.Core.Bool.{Bool, true, false, not}
 use mathlib.Core.List.{List, [], _∷_}
 use native.Mathlib.Omega.{arith}
 use borrow.Author.Tests.{le-leb}
@@ -28,10 +28,6 @@ module _ (low high : ℕ) where
   pub high-nan : isNan low ≡ false → isNan high ≡ true → At 1 ≡ firstOf (depthWrong (low ∷ high ∷ [])) 2
   unfolding firstFrom depthWrong
   high-nan e f = simp (e, f)
-
-  -- the two comparisons, which say the same
-  pub both-say : {t u : Bool} → t ≡ atMost low high → (atMost low high && t) ≡ u → atMost low high ≡ u
-  both-say e f = rw (e, and-self) at f
 
   pub ordered : isNan low ≡ false → isNan high ≡ false → atMost low high ≡ true → Nothing ≡ firstOf (depthWrong (low ∷ high ∷ [])) 2
   unfolding firstFrom depthWrong

@@ -19,6 +19,7 @@ use rules::Reading;
 use rules::Reason;
 use rules::Verdict;
 use rules::faults::in_batch;
+use words::dwords::dword;
 
 // The sign of a value, the highest of its bits.
 const SIGN: u32 = 0x8000_0000;
@@ -41,13 +42,6 @@ fn dwords_of(kind: Kind) -> usize
         Kind::Viewport => 2,
         Kind::ColourCalc => 6,
     }
-}
-
-// Dword k of a structure; 0 past its end.
-fn dword(d: &[u32], k: usize) -> u32
-    ensures { λ r. ⌜ r ≡ getD (now (d .entry)) k 0 ⌝ }
-{
-    if k < d.len() { d[k] } else { 0 }
 }
 
 // Whether the bits are a NaN's: without the sign they are above an infinity's.
@@ -112,17 +106,28 @@ fn rank(bits: u32) -> u32
     }
 }
 
-// Whether one value is at most another, by their bits alone.
+// Whether one value is at most another, by their bits alone. Bits that are the same need no rank.
 fn at_most_by_bits(minimum: u32, maximum: u32) -> bool
     requires { ⌜ isNan minimum ≡ false ⌝ }
     requires { ⌜ isNan maximum ≡ false ⌝ }
     ensures { λ r. ⌜ r ≡ atMost minimum maximum ⌝ }
 {
-    rank(minimum) <= rank(maximum)
+    minimum == maximum || rank(minimum) <= rank(maximum)
 }
 
-// The first of two depths that is a NaN; else the maximum, if it is below the minimum. They are compared twice: a processor
-// that was told to take denormals for zeros finds more floats in order than there are, and the bits are the same in any mode.
+// Whether one value is at most another, as floats. A processor that was told to take denormals for zeros finds floats equal that
+// are not, and none below another that is not below it. So "below" is believed, and else the bits decide, which know no such mode.
+fn at_most(minimum: u32, maximum: u32) -> bool
+    requires { ⌜ isNan minimum ≡ false ⌝ }
+    requires { ⌜ isNan maximum ≡ false ⌝ }
+    ensures { λ r. ⌜ r ≡ atMost minimum maximum ⌝ }
+{
+    let low = f32::from_bits(minimum);
+    let high = f32::from_bits(maximum);
+    low < high || at_most_by_bits(minimum, maximum)
+}
+
+// The first of two depths that is a NaN; else the maximum, if it is below the minimum.
 fn first_depth(minimum: u32, maximum: u32) -> Found
     ensures { λ r. ⌜ r ≡ firstOf (depthWrong (minimum ∷ maximum ∷ [])) 2 ⌝ }
 {
@@ -132,9 +137,7 @@ fn first_depth(minimum: u32, maximum: u32) -> Found
     if is_nan(maximum) {
         return Found::At(1);
     }
-    let low = f32::from_bits(minimum);
-    let high = f32::from_bits(maximum);
-    if (low <= high) & at_most_by_bits(minimum, maximum) {
+    if at_most(minimum, maximum) {
         Found::Nothing
     } else {
         Found::At(1)
@@ -255,7 +258,7 @@ pub fn read<'a>(
 {
     let n = dwords_of(kind);
     let held = windows::held_in(batch, batch_at, state, state_at, address, n);
-    let d = windows::structure(batch, batch_at, state, state_at, address, n);
+    let d = windows::part_of(batch, state, held, n);
     match judged(kind, held, d, pointer) {
         Verdict::Pass => values(kind, d),
         Verdict::Fails(f) => Reading::Unreadable(f),

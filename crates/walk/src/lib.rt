@@ -1,4 +1,4 @@
-// Does the capture run to its end, and what did it do on the way? The public call `check`, and the loop behind it.
+// Does the capture run to its end, and what did it do on the way? The public call `check` of the table engine, and the loop behind both engines.
 ghost use mathlib.Core.Path.{_≡_};
 ghost use Prim.Native.Nat.{_^_, _≤_, _<_};
 ghost use lib.ListN.{length};
@@ -12,9 +12,10 @@ ghost use Rattle.step.specs.Parts.{captured, Fitted, SmallBase};
 ghost use Rattle.walk.specs.Lent.{lentCapture, stopFor, Ran};
 use answers::acceptance;
 use answers::refusal;
-use fresh::fresh;
+use looks::Engine;
 use records::record_of;
 use records::write_record;
+use rows::mask_table;
 use rules::After;
 use rules::Answer;
 use rules::Base;
@@ -29,17 +30,19 @@ use rules::Windows;
 use rules::faults::in_batch;
 use step::step;
 use table::SURFACE_FORMATS;
+use turns::turn_at;
 
 pub mod answers;
-mod fresh;
 mod records;
 mod table;
+mod turns;
 
 // How many commands a run may have.
 const BUDGET: usize = 65536;
 
-// The run of a capture whose windows are sound, from its first dword on. The table of formats is copied here once, and lent down.
+// The run of a capture whose windows are sound, from its first dword on. The tables are written out here, once for a run, and lent down.
 fn run<'a>(
+    engine: Engine,
     batch: &'a [u32],
     state: &'a [u32],
     w: Windows,
@@ -49,27 +52,28 @@ fn run<'a>(
     requires { ⌜ (Fitted w (now batch) (now state)) × (length (now batch) ≤ windowLimit) × (length (now state) ≤ windowLimit) × (SmallBase base) ⌝ }
     ensures { λ r. ⌜ Ran base (captured w (now (batch .entry)) (now (state .entry))) (now (records .entry)) r (now (records .exit)) ⌝ }
 {
+    let masks = mask_table();
     let formats = SURFACE_FORMATS;
     let room = room_in(records.len());
     let mut n: usize = 0;
-    let mut s = started(base);
+    let mut turn = turn_at(started(base));
     loop {
-        let at = s.at;
-        match step(batch, state, w, s, &formats) {
-            Outcome::Refused(f) => return stopped(f, at, n),
+        let s = turn.cursor;
+        match step(engine, batch, state, w, s, &masks, &formats) {
+            Outcome::Refused(f) => return stopped(f, s.at, n),
             Outcome::Taken(command, after) => {
                 if n == room {
-                    return stopped(full(at), at, n);
+                    return stopped(full(s.at), s.at, n);
                 }
                 match after {
                     After::Ends => {
-                        write_record(&mut records[n..], record_of(command));
+                        write_record(&mut records[n..], record_of(turn.level, command));
                         return acceptance(n + 1);
                     }
                     After::To(t) => {
-                        write_record(&mut records[n..], record_of(command));
+                        write_record(&mut records[n..], record_of(turn.level, command));
                         n += 1;
-                        s = fresh(t);
+                        turn = turn_at(t);
                     }
                 }
             }
@@ -141,8 +145,10 @@ fn windows_of(
     }
 }
 
-// THE PUBLIC CALL: whether the capture runs to its end, and the records of its commands.
-pub fn check<'a>(
+// Whether the capture runs to its end by the engine that is asked for, and the records of its commands. It is for the engines' own
+// calls, and a program has one of these: one that reaches both engines through this loop pays for the choice in every command.
+pub fn check_by<'a>(
+    engine: Engine,
     batch: &'a [u32],
     batch_at: u64,
     state: &'a [u32],
@@ -157,5 +163,29 @@ pub fn check<'a>(
     if let Verdict::Fails(f) = windows::sound(batch.len(), state.len(), w) {
         return refusal(f, 0);
     }
-    run(batch, state, w, Base::Unset, records)
+    run(engine, batch, state, w, Base::Unset, records)
+}
+
+// THE PUBLIC CALL of the table engine: whether the capture runs to its end, and the records of its commands.
+pub fn check<'a>(
+    batch: &'a [u32],
+    batch_at: u64,
+    state: &'a [u32],
+    state_at: u64,
+    scratch_at: u64,
+    scratch_len: u32,
+    records: &mut [u32],
+) -> Answer
+    ensures { λ r. ⌜ Checked startingBase (lentCapture (now (batch .entry)) «batch_at» (now (state .entry)) «state_at» «scratch_at» «scratch_len») (now (records .entry)) r (now (records .exit)) ⌝ }
+{
+    check_by(
+        Engine::Table,
+        batch,
+        batch_at,
+        state,
+        state_at,
+        scratch_at,
+        scratch_len,
+        records,
+    )
 }

@@ -1,14 +1,16 @@
 -- Dwords that a window holds, and what is known where one of two windows holds them.
 -- Assumes nothing.
 use Prim.Native.Nat.{ℕ, _+_, _-_, _*_, _%_, _^_, _≤_, _<_}
-use mathlib.Core.Path.{_≡_}
+use mathlib.Core.Path.{_≡_, sym}
 use mathlib.Core.Bool.{Bool, true, false, cond}
 use mathlib.Core.Logic.{⊎-elim}
 use native.Mathlib.Omega.{arith}
 use borrow.Author.Tests.{eqb-true}
 use Rattle.rules.specs.declared.Window.{Window}
+use Rattle.rules.specs.declared.Held.{Held}
 use Rattle.rules.specs.declared.Held.the-variants.{InBatch, InState, Nowhere}
 use Rattle.rules.specs.Windows.{lent, holds, Inside, holdsDwords, dwordOf, heldAt}
+use Rattle.windows.specs.Parts.{WithinItsWindow}
 use Rattle.rules.proofs.Searching.{either, and-left, and-right}
 use Rattle.rules.proofs.Ranges.{inside}
 
@@ -65,3 +67,12 @@ module _ (batchAt batchCount stateAt stateCount address n : ℕ) {i : ℕ} where
       let p = names-state (holdsDwords (lent batchAt batchCount) address n) (holdsDwords (lent stateAt stateCount) address n) _ _ e in
       let d = dwords-inside stateAt stateCount address n (p .0) in
       omega arith
+
+-- so a part of it can be taken there
+pub within-its-window : (batchAt batchCount stateAt stateCount address n : ℕ) (held : Held)
+    → held ≡ heldAt (lent batchAt batchCount) (lent stateAt stateCount) address n → WithinItsWindow batchCount stateCount n held
+within-its-window batchAt batchCount stateAt stateCount address n (InBatch i) e =
+    within-batch batchAt batchCount stateAt stateCount address n (sym e)
+within-its-window batchAt batchCount stateAt stateCount address n (InState i) e =
+    within-state batchAt batchCount stateAt stateCount address n (sym e)
+within-its-window batchAt batchCount stateAt stateCount address n Nowhere e = tt

@@ -12,6 +12,7 @@ ghost use Rattle.rules.specs.Refusals.{fault, batchWindow};
 ghost use Rattle.rules.specs.Windows.{lent, listed, end, windowLimit, countsWrong, unaligned, endsTooHigh, shareByte, windowFault};
 ghost use Rattle.rules.specs.Windows.{fits, holdsDwords, heldAt, partOf};
 ghost use Rattle.rules.specs.Addresses.{accessWrong};
+ghost use Rattle.windows.specs.Parts.{WithinItsWindow};
 use rules::Access;
 use rules::Held;
 use rules::Reason;
@@ -112,17 +113,18 @@ pub fn sound(batch_count: usize, state_count: usize, w: Windows) -> Verdict
     Verdict::Pass
 }
 
-// Whether all the bytes lie in some window. Left at the first that holds them, since each test has several ways out.
-fn anywhere(w: Windows, address: u64, bytes: u64) -> bool
+// Whether all the bytes lie in some window. Left at the first that holds them, since each test has several ways out. Scratch is asked first: it
+// is where most ranges lie.
+pub fn anywhere(w: Windows, address: u64, bytes: u64) -> bool
     ensures { λ r. ⌜ r ≡ fits w AnyWindow address bytes ⌝ }
 {
+    if words::holds(w.scratch, address, bytes) {
+        return true;
+    }
     if words::holds(w.batch, address, bytes) {
         return true;
     }
-    if words::holds(w.state, address, bytes) {
-        return true;
-    }
-    words::holds(w.scratch, address, bytes)
+    words::holds(w.state, address, bytes)
 }
 
 // Whether all the bytes lie in one of the windows that the rule names.
@@ -203,6 +205,18 @@ fn part(words: &[u32], from: usize, n: usize) -> &[u32]
     &words[from..from + n]
 }
 
+// The n dwords from where they are held on, as a part of the window that holds them; an empty part if neither does.
+pub fn part_of<'a>(batch: &'a [u32], state: &'a [u32], held: Held, n: usize) -> &'a [u32]
+    requires { ⌜ WithinItsWindow (length (now batch)) (length (now state)) n held ⌝ }
+    ensures { λ r. ⌜ now r ≡ partOf (now (batch .entry)) (now (state .entry)) n held ⌝ }
+{
+    match held {
+        Held::InBatch(i) => part(batch, i, n),
+        Held::InState(i) => part(state, i, n),
+        Held::Nowhere => &batch[..0],
+    }
+}
+
 // The n dwords at the address, as a part of whichever of the two lent windows holds them; an empty part if neither does.
 pub fn structure<'a>(
     batch: &'a [u32],
@@ -217,9 +231,6 @@ pub fn structure<'a>(
         (heldAt (lent «batch_at» (length (now (batch .entry)))) (lent «state_at» (length (now (state .entry)))) address n)
         ⌝ }
 {
-    match held_in(batch, batch_at, state, state_at, address, n) {
-        Held::InBatch(i) => part(batch, i, n),
-        Held::InState(i) => part(state, i, n),
-        Held::Nowhere => &batch[..0],
-    }
+    let held = held_in(batch, batch_at, state, state_at, address, n);
+    part_of(batch, state, held, n)
 }

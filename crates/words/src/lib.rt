@@ -1,8 +1,10 @@
-// The two tests that every check of a dword or of an address comes down to.
+// The two tests that every check of a dword or of an address comes down to; and `dwords`, which reads a command's dwords and addresses.
 ghost use mathlib.Core.Path.{_≡_};
 ghost use Rattle.rules.specs.Words.{allowed};
 ghost use Rattle.rules.specs.Windows.{holds};
 use rules::Window;
+
+pub mod dwords;
 
 // Whether no bit of the word is set outside the mask.
 pub fn allowed(word: u32, mask: u32) -> bool

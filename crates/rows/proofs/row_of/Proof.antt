@@ -3,7 +3,7 @@
 use mathlib.Core.Path.{_∙_}
 use lib.Dec.{lit<}
 use Rattle.rules.specs.Commands.{rows, rowFrom}
-use Rattle.rows.proofs.RowLaws.{key-0, key-3}
+use Rattle.rules.proofs.Keys.{key-0, key-3}
 use borrow.Author.Needs.{needs}
 use Rattle.rows.proofs.row_of.Statement.{statement}
 use Rattle.rows.proofs.row_of.Tie as tie

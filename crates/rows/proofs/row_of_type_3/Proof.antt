@@ -1,7 +1,7 @@
 -- `rows::row_of_type_3` meets its contract: an arm for each key, and no row has any other.
 -- Assumes nothing.
 use Rattle.rules.specs.Commands.{rows, rowFrom}
-use Rattle.rows.proofs.RowLaws.{unknown-3}
+use Rattle.rules.proofs.Keys.{unknown-3}
 use Rattle.rows.proofs.row_of_type_3.Statement.{statement}
 use Rattle.rows.proofs.row_of_type_3.Tie as tie
 

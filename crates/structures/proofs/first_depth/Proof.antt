@@ -4,7 +4,7 @@ use mathlib.Core.Path.{_≡_, sym, _∙_}
 use mathlib.Core.Bool.{false}
 use borrow.Author.Needs.{needs}
 use Rattle.rules.specs.Structures.{isNan}
-use Rattle.structures.proofs.ValueRules.{no-nan, low-nan, high-nan, ordered, misordered, both-say}
+use Rattle.structures.proofs.ValueRules.{low-nan, high-nan, ordered, misordered}
 use Rattle.structures.proofs.first_depth.Statement.{statement}
 use Rattle.structures.proofs.first_depth.Tie as tie
 
@@ -24,15 +24,14 @@ neither c =
 returns-3 : tie.Need-returns-3
 returns-3 c =
     let n = neither (c .before .before) in
-    ordered _ _ (n .0) (n .1) (both-say _ _ (c .before .at-most-by-bits .ensures) (c .if3 .taken))
+    ordered _ _ (n .0) (n .1) (sym (c .before .at-most .ensures) ∙ c .if3 .taken)
 
 returns-4 : tie.Need-returns-4
 returns-4 c =
     let n = neither (c .before .before) in
-    misordered _ _ (n .0) (n .1) (both-say _ _ (c .before .at-most-by-bits .ensures) (c .if3 .left))
+    misordered _ _ (n .0) (n .1) (sym (c .before .at-most .ensures) ∙ c .if3 .left)
 
 pub first-depth-spec : {M : Type 1} → statement M
 first-depth-spec =
     tie.close
-    (tie.spec (λ c κs. search needs) returns (λ c κs. search needs) returns-2 (λ c. no-nan _ (neither c .0)) (λ c. no-nan _ (neither c .1))
-    (λ c κs. neither c) returns-3 returns-4)
+    (tie.spec (λ c κs. search needs) returns (λ c κs. search needs) returns-2 (λ c κs. neither c) returns-3 returns-4)

@@ -8,17 +8,17 @@ use Rattle.rules.specs.Windows.{windowsWithin, fits}
 use Rattle.windows.proofs.anywhere.Statement.{statement}
 use Rattle.windows.proofs.anywhere.Tie as tie
 
-returns : tie.Need-returns
+in-scratch : tie.Need-returns
 unfolding some windowsWithin fits
-returns c = simp (sym (c .before .holds .ensures) ∙ c .if1 .taken)
+in-scratch c = simp (sym (c .before .holds .ensures) ∙ c .if1 .taken, or-true)
 
-returns-2 : tie.Need-returns-2
+in-batch : tie.Need-returns-2
 unfolding some windowsWithin fits
-returns-2 c = simp (sym (c .before .holds2 .ensures) ∙ c .if2 .taken, or-true)
+in-batch c = simp (sym (c .before .holds2 .ensures) ∙ c .if2 .taken)
 
-returns-3 : tie.Need-returns-3
+in-state : tie.Need-returns-3
 unfolding some windowsWithin fits
-returns-3 c =
+in-state c =
     simp (
       c .holds3 .ensures,
       sym (c .before .before .holds2 .ensures) ∙ c .before .if2 .left,
@@ -29,4 +29,4 @@ returns-3 c =
 pub anywhere-spec : {M : Type 1} → statement M
 anywhere-spec =
     tie.close
-    (tie.spec (λ c κs. search needs) returns (λ c κs. search needs) returns-2 (λ c κs. search needs) returns-3)
+    (tie.spec (λ c κs. search needs) in-scratch (λ c κs. search needs) in-batch (λ c κs. search needs) in-state)

@@ -1,4 +1,4 @@
--- `ask` is safe: what is lent lies within the words and the records.
+-- `ask` is safe: what is lent lies within the words, and within the records of each engine.
 -- Assumes nothing.
 use native.Mathlib.Omega.{arith}
 use lib.Seq.{length-take-le}
@@ -26,15 +26,24 @@ slice-aggregate-batch c = sym (length-take-le _ _ (omega arith))
 
 array-borrow-prefix-records : tie.Need-array-borrow-prefix-records
 unfolding unwritten
-array-borrow-prefix-records c = within _ (c .before .before .before .before .at-most3 .ensures)
+array-borrow-prefix-records c = within _ (c .at-most3 .ensures)
 
 slice-aggregate-check : tie.Need-slice-aggregate-check
 unfolding unwritten
-slice-aggregate-check c = counted _ (c .before .before .before .before .before .at-most3 .ensures)
+slice-aggregate-check c = counted _ (c .before .at-most3 .ensures)
+
+array-borrow-prefix-twin : tie.Need-array-borrow-prefix-twin
+unfolding unwritten
+array-borrow-prefix-twin c = within _ (c .before .before .before .at-most3 .ensures)
+
+slice-aggregate-check-2 : tie.Need-slice-aggregate-check-2
+unfolding unwritten
+slice-aggregate-check-2 c = counted _ (c .before .before .before .before .at-most3 .ensures)
 
 pub ask-spec : {M : Type 1} → statement M
 ask-spec =
     tie.close
     (tie.spec (λ c. search needs) (λ c κs. tt) slice-aggregate-batch (λ c κs. tt) (λ c. omega arith) (λ c. search needs)
-    (λ c. omega arith) (λ c. omega arith) (λ c. omega arith) (λ c κs. tt) (λ c κs. tt) (λ c κs. tt) (λ c κs. tt) (λ c κs. tt)
-    array-borrow-prefix-records slice-aggregate-check (λ c κs. tt) (λ c κs. tt) (λ c κs. tt) (λ c κs. tt) (λ c. tt) (λ c. tt))
+    (λ c. omega arith) (λ c. omega arith) (λ c. omega arith) (λ c κs. tt) (λ c κs. tt)
+    array-borrow-prefix-records slice-aggregate-check (λ c κs. tt) array-borrow-prefix-twin slice-aggregate-check-2 (λ c κs. tt)
+    (λ c κs. tt) (λ c κs. tt) (λ c κs. tt) (λ c κs. tt) (λ c κs. tt) (λ c. tt) (λ c. tt))

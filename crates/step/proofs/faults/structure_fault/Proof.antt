@@ -4,7 +4,7 @@ use mathlib.Core.Path.{_∙_, ap}
 use native.Mathlib.Omega.{arith}
 use borrow.Author.Needs.{needs}
 use Rattle.rules.specs.Structures.{verdictOf}
-use Rattle.step.proofs.Contents.{unpointed, unbased, read}
+use Rattle.step.proofs.Structural.{unpointed, unbased, read}
 use Rattle.step.proofs.faults.structure_fault.Statement.{statement}
 use Rattle.step.proofs.faults.structure_fault.Tie as tie
 

@@ -1,0 +1,50 @@
+-- Rows of one length with no value rule and no address: 10 is all that can be wrong with their dwords.
+-- Assumes nothing.
+use Prim.Native.Nat.{ℕ, _+_, _%_, _≤_}
+use mathlib.Core.Path.{_≡_, refl, sym, ap, _∙_}
+use mathlib.Core.Bool.{Bool, true, false, cond, not}
+use mathlib.Core.List.{List, [], _∷_}
+use lib.ListN.{length, getD}
+use Rattle.rules.specs.declared.Windows.{Windows}
+use Rattle.rules.specs.declared.Level.the-variants.{First}
+use Rattle.rules.specs.declared.Reason.the-variants.{BitNotAllowed}
+use Rattle.rules.specs.Words.{allowed, inGroup, firstFrom}
+use Rattle.rules.specs.Refusals.{numberOf}
+use Rattle.rules.specs.Commands.{exactly, theRow, spot, groupSize}
+use Rattle.rules.specs.Masks.{headerMask, masksOf, allowedOf, allowedAt, bitWrong}
+use Rattle.rules.specs.Uses.{noUse, accessOf}
+use Rattle.rules.specs.Values.{Rule, noRule, ruleOf, valueWrong}
+use Rattle.rules.proofs.Searching.{finds-none}
+use Rattle.looks.specs.Looks.{contentOf}
+use Rattle.plain_mi.specs.Plain.{coded, firstCoded, wrongOf}
+use Rattle.plain_mi.proofs.Bare.{no-range}
+use Rattle.plain_mi.proofs.Coding.{alone}
+use Rattle.plain_mi.proofs.Lengths.{listed, as-many, exact-says}
+
+no-value : (r : ℕ) → ruleOf r ≡ noRule → (d : List ℕ) → valueWrong r d ≡ (λ (k : ℕ). false)
+unfolding valueWrong
+no-value r e d = ap {B = ℕ → Bool} (λ (rule : Rule). λ k. rule d k (spot r k) (getD d k 0)) e
+
+module _ (r f : ℕ) (t : theRow r .total ≡ exactly f) (no-rule : ruleOf r ≡ noRule) (no-use : accessOf r ≡ noUse) (w : Windows)
+    (rest : List ℕ) (e : getD rest 0 0 % 256 ≡ f) (h : f + 2 ≤ length rest) where
+  bits-only : (d : List ℕ) → firstCoded BitNotAllowed (bitWrong r d) 0 (length d) ≡ coded (contentOf w r d 0 First)
+  unfolding contentOf
+  bits-only d =
+      let none = finds-none (λ (i : ℕ). false) 0 (length d) (λ i from to. refl) in
+      rw (no-value r no-rule d, no-range r no-use w d, none) (alone _)
+
+  pub bits-say : {x : ℕ} → x ≡ firstCoded BitNotAllowed (bitWrong r (listed rest 0 (f + 2))) 0 (f + 2) → x ≡ wrongOf w r rest First
+  bits-say q =
+      exact-says r f t w rest First e h
+      (q
+      ∙ ap (firstCoded BitNotAllowed (bitWrong r (listed rest 0 (f + 2))) 0) (sym (as-many rest 0 (f + 2)))
+      ∙ bits-only (listed rest 0 (f + 2)))
+
+-- with one dword behind the header: whether that keeps its mask
+pub dword-decides : (r : ℕ) → theRow r .total ≡ exactly 0 → ruleOf r ≡ noRule → accessOf r ≡ noUse → (mask : ℕ)
+    → theRow r .masks ≡ mask ∷ [] → (w : Windows) (rest : List ℕ) → getD rest 0 0 % 256 ≡ 0 → 2 ≤ length rest
+    → allowed (getD rest 0 0) (headerMask (theRow r)) ≡ true → (wrong : Bool) → not (allowed (getD rest 1 0) mask) ≡ wrong
+    → cond wrong 2561 0 ≡ wrongOf w r rest First
+unfolding coded firstFrom numberOf bitWrong allowedAt allowedOf masksOf inGroup groupSize
+dword-decides r t no-rule no-use mask masks w rest e h kept true a = bits-say r 0 t no-rule no-use w rest e h (rw (kept, masks, a))
+dword-decides r t no-rule no-use mask masks w rest e h kept false a = bits-say r 0 t no-rule no-use w rest e h (rw (kept, masks, a))

@@ -1,0 +1,2 @@
+pub mod BitsOnly
+pub mod Deciding

@@ -1,0 +1,284 @@
+// Rows 7 to 9 and 12 to 16, the commands of type 3 without groups, in the table's order: each row's rules in the order of their numbers, beside
+// document 01's words. Rows 10 and 11 stand in `plain_vertex`.
+ghost use mathlib.Core.Path.{_≡_};
+ghost use mathlib.Core.Bool.{true, not};
+ghost use mathlib.Core.List.{[], _∷_};
+ghost use Prim.Native.Nat.{_+_, _*_, _≤_, _<_, _-_};
+ghost use lib.ListN.{length, getD};
+ghost use Rattle.rules.specs.declared.Level.the-variants.{First};
+ghost use Rattle.rules.specs.declared.Reason.the-variants.{BitNotAllowed, ValueBroken};
+ghost use Rattle.rules.specs.Words.{bit, allowed};
+ghost use Rattle.rules.specs.Refusals.{batchWindow, refuseFound};
+ghost use Rattle.rules.specs.Commands.{pipeRow, selectRow, baseRow, indexBufferRow, topologyRow, viewportRow, colourRow, primitiveRow, rowOf};
+ghost use Rattle.rules.specs.Uses.{postSync};
+ghost use Rattle.rules.specs.Values.{valueWrong};
+ghost use Rattle.plain_mi.specs.Plain.{coded, firstCoded, wrongOf, bareOf};
+ghost use Rattle.plain_3d.specs.Stray.{strayFrom};
+use formats::known_topology;
+use plain_mi::heads::other_header;
+use plain_mi::heads::sized_fits;
+use plain_mi::numbers::BIT;
+use plain_mi::numbers::NOTHING;
+use plain_mi::numbers::PAST;
+use plain_mi::numbers::RANGE;
+use plain_mi::numbers::VALUE;
+use plain_mi::numbers::at;
+use rules::Windows;
+use words::allowed;
+use words::dwords::address_of;
+use words::holds;
+
+// 7: PIPE_CONTROL.
+pub fn pipe(w: Windows, rest: &[u32]) -> usize
+    requires { ⌜ (0 < length (now rest)) × (rowOf (getD (now rest) 0 0) ≡ pipeRow) ⌝ }
+    ensures { λ r. ⌜ r ≡ wrongOf w pipeRow (now (rest .entry)) First ⌝ }
+{
+    // 8, 9, 10: "7A000004h"
+    if rest[0] != 0x7A00_0004 {
+        return other_header(rest, 4);
+    }
+    if rest.len() < 6 {
+        return at(PAST, 0);
+    }
+    // 10: "0010FCBFh, address FFFFFFFCh, 2 free"
+    if !allowed(rest[1], 0x0010_FCBF) {
+        return at(BIT, 1);
+    }
+    if !allowed(rest[2], 0xFFFF_FFFC) {
+        return at(BIT, 2);
+    }
+    if !allowed(rest[3], 0x0000_FFFF) {
+        return at(BIT, 3);
+    }
+    // "post-sync is dword 1 bits 15:14"
+    if rest[1] / 0x4000 % 4 == 0 {
+        return pipe_unsynced(rest);
+    }
+    // 12: "else the address is a multiple of 8"
+    if rest[2] % 8 != 0 {
+        return at(VALUE, 2);
+    }
+    // 13: "7 with post-sync (8) in scratch"
+    if !holds(w.scratch, address_of(rest[2], rest[3]), 8) {
+        return at(RANGE, 2);
+    }
+    NOTHING
+}
+
+// 12: "If 0, dwords 2 to 5 are zero".
+fn pipe_unsynced(rest: &[u32]) -> usize
+    requires { ⌜ (6 ≤ length (now rest)) × (postSync (now rest) ≡ 0) ⌝ }
+    ensures { λ r. ⌜ r ≡ firstCoded ValueBroken (valueWrong pipeRow (now (rest .entry))) 0 6 ⌝ }
+{
+    if rest[2] != 0 {
+        return at(VALUE, 2);
+    }
+    if rest[3] != 0 {
+        return at(VALUE, 3);
+    }
+    if rest[4] != 0 {
+        return at(VALUE, 4);
+    }
+    if rest[5] != 0 {
+        return at(VALUE, 5);
+    }
+    NOTHING
+}
+
+// 8: PIPELINE_SELECT.
+pub fn select(header: u32) -> usize
+    requires { ⌜ rowOf header ≡ selectRow ⌝ }
+    ensures { λ r. ⌜ r ≡ bareOf selectRow (header ∷ []) ⌝ }
+{
+    // 10: "69040000h"
+    if header != 0x6904_0000 {
+        return at(BIT, 0);
+    }
+    NOTHING
+}
+
+// 9: STATE_BASE_ADDRESS.
+pub fn base(rest: &[u32]) -> usize
+    requires { ⌜ (0 < length (now rest)) × (rowOf (getD (now rest) 0 0) ≡ baseRow) ⌝ }
+    ensures { λ r. ⌜ r ≡ bareOf baseRow (now (rest .entry)) ⌝ }
+{
+    // 8, 9, 10: "6101000Eh"
+    if rest[0] != 0x6101_000E {
+        return other_header(rest, 14);
+    }
+    if rest.len() < 16 {
+        return at(PAST, 0);
+    }
+    // 10: "dwords 1, 4, 6, 8, 10 allow FFFFF7F1h; 2, 5, 7, 9, 11 allow 0000FFFFh; 3 allows 007F0000h; 12 to 15 allow FFFFF001h"
+    let first = four_bits(rest, 0, 0x6101_000E, 0xFFFF_F7F1, 0x0000_FFFF, 0x007F_0000);
+    if first != NOTHING {
+        return first;
+    }
+    let second = four_bits(rest, 4, 0xFFFF_F7F1, 0x0000_FFFF, 0xFFFF_F7F1, 0x0000_FFFF);
+    if second != NOTHING {
+        return second;
+    }
+    let third = four_bits(rest, 8, 0xFFFF_F7F1, 0x0000_FFFF, 0xFFFF_F7F1, 0x0000_FFFF);
+    if third != NOTHING {
+        return third;
+    }
+    four_bits(rest, 12, 0xFFFF_F001, 0xFFFF_F001, 0xFFFF_F001, 0xFFFF_F001)
+}
+
+// The first of the four dwords from k on with a bit that its mask does not allow.
+fn four_bits(d: &[u32], k: usize, a: u32, b: u32, m: u32, n: u32) -> usize
+    requires { ⌜ k + 4 ≤ length (now d) ⌝ }
+    ensures { λ r. ⌜ r ≡ coded (refuseFound BitNotAllowed batchWindow 0 (strayFrom (now (d .entry)) k (a ∷ b ∷ m ∷ n ∷ []))) ⌝ }
+{
+    if !allowed(d[k], a) {
+        return at(BIT, k);
+    }
+    if !allowed(d[k + 1], b) {
+        return at(BIT, k + 1);
+    }
+    if !allowed(d[k + 2], m) {
+        return at(BIT, k + 2);
+    }
+    if !allowed(d[k + 3], n) {
+        return at(BIT, k + 3);
+    }
+    NOTHING
+}
+
+// 12: 3DSTATE_INDEX_BUFFER.
+pub fn index_buffer(w: Windows, rest: &[u32]) -> usize
+    requires { ⌜ (0 < length (now rest)) × (rowOf (getD (now rest) 0 0) ≡ indexBufferRow) ⌝ }
+    ensures { λ r. ⌜ r ≡ wrongOf w indexBufferRow (now (rest .entry)) First ⌝ }
+{
+    // 8, 9, 10: "780A0003h"
+    if rest[0] != 0x780A_0003 {
+        return other_header(rest, 3);
+    }
+    if rest.len() < 5 {
+        return at(PAST, 0);
+    }
+    // 10: "37Fh, address free, free"
+    if !allowed(rest[1], 0x0000_037F) {
+        return at(BIT, 1);
+    }
+    if !allowed(rest[3], 0x0000_FFFF) {
+        return at(BIT, 3);
+    }
+    // 12: "format (9:8) not 3"
+    if rest[1] / 0x100 % 4 == 3 {
+        return at(VALUE, 1);
+    }
+    // 13: "row 12 likewise with size not 0"
+    if !sized_fits(w, rest[2], rest[3], rest[4]) {
+        return at(RANGE, 2);
+    }
+    NOTHING
+}
+
+// 13: 3DSTATE_VF_TOPOLOGY.
+pub fn topology(rest: &[u32]) -> usize
+    requires { ⌜ (0 < length (now rest)) × (rowOf (getD (now rest) 0 0) ≡ topologyRow) ⌝ }
+    ensures { λ r. ⌜ r ≡ bareOf topologyRow (now (rest .entry)) ⌝ }
+{
+    // 8, 9, 10: "784B0000h"
+    if rest[0] != 0x784B_0000 {
+        return other_header(rest, 0);
+    }
+    if rest.len() < 2 {
+        return at(PAST, 0);
+    }
+    // 10: "3Fh"
+    if !allowed(rest[1], 0x0000_003F) {
+        return at(BIT, 1);
+    }
+    // 12: "01h..14h, 16h, 20h..3Fh"
+    if !known_topology(rest[1]) {
+        return at(VALUE, 1);
+    }
+    NOTHING
+}
+
+// 14: 3DSTATE_VIEWPORT_STATE_POINTERS_CC.
+pub fn viewport(rest: &[u32]) -> usize
+    requires { ⌜ (0 < length (now rest)) × (rowOf (getD (now rest) 0 0) ≡ viewportRow) ⌝ }
+    ensures { λ r. ⌜ r ≡ bareOf viewportRow (now (rest .entry)) ⌝ }
+{
+    // 8, 9, 10: "78230000h"
+    if rest[0] != 0x7823_0000 {
+        return other_header(rest, 0);
+    }
+    if rest.len() < 2 {
+        return at(PAST, 0);
+    }
+    // 10: "FFFFFFE0h"
+    if !allowed(rest[1], 0xFFFF_FFE0) {
+        return at(BIT, 1);
+    }
+    NOTHING
+}
+
+// 15: 3DSTATE_CC_STATE_POINTERS.
+pub fn colour(rest: &[u32]) -> usize
+    requires { ⌜ (0 < length (now rest)) × (rowOf (getD (now rest) 0 0) ≡ colourRow) ⌝ }
+    ensures { λ r. ⌜ r ≡ bareOf colourRow (now (rest .entry)) ⌝ }
+{
+    // 8, 9, 10: "780E0000h"
+    if rest[0] != 0x780E_0000 {
+        return other_header(rest, 0);
+    }
+    if rest.len() < 2 {
+        return at(PAST, 0);
+    }
+    // 10: "FFFFFFC1h"
+    if !allowed(rest[1], 0xFFFF_FFC1) {
+        return at(BIT, 1);
+    }
+    NOTHING
+}
+
+// 16: 3DPRIMITIVE.
+pub fn primitive(rest: &[u32]) -> usize
+    requires { ⌜ (0 < length (now rest)) × (rowOf (getD (now rest) 0 0) ≡ primitiveRow) ⌝ }
+    ensures { λ r. ⌜ r ≡ bareOf primitiveRow (now (rest .entry)) ⌝ }
+{
+    let header = rest[0];
+    // 8, 9, 10: "7B000005h + bits 10:8", which are free
+    if header - header / 0x100 % 8 * 0x100 != 0x7B00_0005 {
+        return other_header(rest, 5);
+    }
+    if rest.len() < 7 {
+        return at(PAST, 0);
+    }
+    // 10: "33Fh, 5 free"
+    if !allowed(rest[1], 0x0000_033F) {
+        return at(BIT, 1);
+    }
+    // 12: "with bit 9, .."
+    if rest[1] / 0x200 % 2 == 1 {
+        return primitive_by_end(header, rest);
+    }
+    NOTHING
+}
+
+// 12: "dword 1 bit 9 not with header bit 10 (place dword 1); with bit 9, dword 1 bit 8 is 0 and dwords 3, 5, 6 are 0".
+fn primitive_by_end(header: u32, rest: &[u32]) -> usize
+    requires { ⌜ (7 ≤ length (now rest)) × (header ≡ getD (now rest) 0 0) × (bit (getD (now rest) 1 0) 9 ≡ true) ⌝ }
+    ensures { λ r. ⌜ r ≡ firstCoded ValueBroken (valueWrong primitiveRow (now (rest .entry))) 0 7 ⌝ }
+{
+    if header / 0x400 % 2 == 1 {
+        return at(VALUE, 1);
+    }
+    if rest[1] / 0x100 % 2 == 1 {
+        return at(VALUE, 1);
+    }
+    if rest[3] != 0 {
+        return at(VALUE, 3);
+    }
+    if rest[5] != 0 {
+        return at(VALUE, 5);
+    }
+    if rest[6] != 0 {
+        return at(VALUE, 6);
+    }
+    NOTHING
+}

@@ -1,0 +1,151 @@
+-- A header in its row: the key that it is known by, the bits that it may have, and the header that is not the table's.
+-- Assumes nothing.
+use Prim.Native.Nat.{ℕ, suc, _+_, _-_, _*_, _/_, _%_, _^_, _≤_, _<_}
+use native.Mathlib.Omega.{arith}
+use mathlib.Core.Path.{_≡_, refl, sym, ap, _∙_}
+use mathlib.Core.Bool.{Bool, true, false, cond, not}
+use mathlib.Core.List.{List, [], _∷_}
+use mathlib.Core.Logic.{⊎-elim}
+use lib.ListN.{length, getD, take}
+use lib.Seq.{length-take-le, getD-take}
+use lib.Bits.{bitAnd, and-block, and-mask, and-self, and-le-r}
+use lib.Dec.{ltb, eqb}
+use borrow.Author.Tests.{eqb-true, eq-eqb, ltb-true, ltb-false, not-false}
+use Rattle.rules.specs.declared.Windows.{Windows}
+use Rattle.rules.specs.declared.Level.{Level}
+use Rattle.rules.specs.Words.{field, cleared, allowed, inGroup}
+use Rattle.rules.specs.Commands.{noField, exactly, Row, rows, rowCount, rowFrom, theRow, keyOf, rowOf, lengthOf, lengthRight}
+use Rattle.rules.specs.Uses.{noUse, accessOf, accessAt}
+use Rattle.rules.specs.Masks.{headerMask, masksOf, allowedOf, allowedAt, bitWrong}
+use Rattle.rules.specs.Values.{noRule, ruleOf, valueWrong}
+use Rattle.rules.specs.Addresses.{rangeWrong}
+use Rattle.rules.specs.Step.{nested}
+use Rattle.rules.proofs.Searching.{either}
+use Rattle.plain_mi.specs.Plain.{wrongOf, otherHeader}
+use Rattle.plain_mi.proofs.Lengths.{field-is, length-says, past-says, content-says}
+use Rattle.plain_mi.proofs.Content.{header-says}
+use Rattle.plain_mi.proofs.Tests.{tested, content, whole}
+
+-- a header in a row has the row's key
+from-row : (key : ℕ) (rs : List Row) (i : ℕ) (x : Row) → rowFrom key rs ≡ i → i < length rs → key ≡ getD rs i x .key
+unfolding rowFrom
+from-row key [] i x e h = absurd (omega arith)
+from-row key (r ∷ rs) i x e h = by (eqb key (r .key)) refl e (λ l. from-row key rs (rowFrom key rs) x refl l)
+  where
+    by : (b : Bool) → eqb key (r .key) ≡ b → cond b 0 (suc (rowFrom key rs)) ≡ i
+        → (rowFrom key rs < length rs → key ≡ getD rs (rowFrom key rs) x .key)
+        → key ≡ getD (r ∷ rs) i x .key
+    by true t e later = eqb-true _ _ t ∙ ap (λ (j : ℕ). getD (r ∷ rs) j x .key) e
+    by false t e later = later (omega arith) ∙ ap (λ (j : ℕ). getD (r ∷ rs) j x .key) e
+
+key-at-most : (header : ℕ) → keyOf header ≤ header
+unfolding keyOf
+key-at-most header = by (eqb (field header 31 29) 0)
+  where
+    by : (b : Bool) → cond b (cleared header 23) (cleared header 16) ≤ header
+    by true = omega arith
+    by false = omega arith
+
+-- what a word keeps within a mask is not above it
+within-mask : (word mask : ℕ) → allowed word mask ≡ true → word ≤ mask
+unfolding allowed
+within-mask word mask e = omega (arith, and-le-r word mask, eqb-true (bitAnd word mask) word e)
+
+module _ (r : ℕ) (d : List ℕ) where
+  pub header-bits : bitWrong r d 0 ≡ not (allowed (getD d 0 0) (headerMask (theRow r)))
+  unfolding bitWrong allowedAt allowedOf masksOf inGroup
+  header-bits = refl
+
+  -- a header in a row that keeps its mask lies between the row's key and the mask; so one that cannot lie there has a wrong bit
+  pub not-between : r < rowCount → rowOf (getD d 0 0) ≡ r
+      → (bitWrong r d 0 ≡ false → theRow r .key ≤ getD d 0 0 → getD d 0 0 ≤ headerMask (theRow r) → ⊥)
+      → bitWrong r d 0 ≡ true
+  unfolding rowOf theRow rows
+  not-between h q n =
+      ⊎-elim (λ b. b)
+      (λ b.
+      let k : keyOf (getD d 0 0) ≡ theRow r .key = from-row (keyOf (getD d 0 0)) rows r _ q h in
+      absurd (n b (omega (arith, key-at-most (getD d 0 0))) (within-mask _ _ (not-false _ (sym header-bits ∙ b)))))
+      (either (bitWrong r d 0))
+
+  -- without free bits and a field it is the key
+  pub other-key : r < rowCount → theRow r .total ≡ noField → theRow r .free ≡ 0 → rowOf (getD d 0 0) ≡ r
+      → (getD d 0 0 ≡ theRow r .key → ⊥)
+      → bitWrong r d 0 ≡ true
+  other-key h t free q n =
+      let m : headerMask (theRow r) ≡ theRow r .key + 0 = rw (t, free) in
+      not-between h q (λ b low high. n (omega arith))
+
+-- a key of which bits 7:0 are 0, and any field
+module _ (x m : ℕ) where
+  split : bitAnd x (256 * m + 0xFF) ≡ bitAnd (x / 256) m * 256 + x % 256
+  split =
+      let a : x ≡ x / 256 * 2 ^ 8 + x % 256 = omega arith in
+      let b : 256 * m + 0xFF ≡ m * 2 ^ 8 + 0xFF = omega arith in
+      ap (λ (i : ℕ). bitAnd i (256 * m + 0xFF)) a
+      ∙ ap (bitAnd (x / 256 * 2 ^ 8 + x % 256)) b
+      ∙ and-block 8 (x / 256) m (x % 256) 0xFF (omega arith) (omega arith)
+      ∙ ap (λ (i : ℕ). bitAnd (x / 256) m * 2 ^ 8 + i) (and-mask (x % 256) 8 ∙ (omega arith))
+
+  pub key-and-field : x - x % 256 ≡ 256 * m → allowed x (256 * m + 0xFF) ≡ true
+  unfolding allowed
+  key-and-field e =
+      let q : x / 256 ≡ m = omega arith in
+      let s : bitAnd (x / 256) m ≡ m = ap (λ (i : ℕ). bitAnd i m) q ∙ and-self m in
+      eq-eqb _ _ (split ∙ (omega arith))
+
+-- 10 of the header, once 8 and 9 pass
+pub bit-says-first : (w : Windows) (r : ℕ) (rest : List ℕ) (level : Level) → lengthRight r (getD rest 0 0) ≡ true → (n : ℕ)
+    → lengthOf r (getD rest 0 0) ≡ n → 0 < n → n ≤ length rest → bitWrong r rest 0 ≡ true → 2560 ≡ wrongOf w r rest level
+bit-says-first w r rest level right n long some h e =
+    let own : getD (take n rest) 0 0 ≡ getD rest 0 0 = getD-take n rest 0 0 some in
+    let bit = header-bits r (take n rest)
+    ∙ ap (λ (x : ℕ). not (allowed x (headerMask (theRow r)))) own
+    ∙ sym (header-bits r rest)
+    ∙ e in
+    sym (header-says w r (take n rest) level (omega (arith, length-take-le n rest h)) bit)
+    ∙ content-says w r rest level right long h
+
+-- the header is not the table's: its field is wrong, or the command goes past the window, or it has a bit that is not allowed
+module _ (w : Windows) (r : ℕ) (rest : List ℕ) (level : Level) (f : ℕ)
+    (right : lengthRight r (getD rest 0 0) ≡ eqb (field (getD rest 0 0) 7 0) f)
+    (long : lengthOf r (getD rest 0 0) ≡ field (getD rest 0 0) 7 0 + 2)
+    (bit : getD rest 0 0 % 256 ≡ f → bitWrong r rest 0 ≡ true) where
+  past-or-bit : getD rest 0 0 % 256 ≡ f → cond (ltb (length rest) (f + 2)) 2304 2560 ≡ wrongOf w r rest level
+  past-or-bit e = by (ltb (length rest) (f + 2)) refl
+    where
+      known : lengthRight r (getD rest 0 0) ≡ true
+      known = right ∙ eq-eqb _ _ (field-is _ ∙ e)
+
+      counted : lengthOf r (getD rest 0 0) ≡ f + 2
+      counted = long ∙ ap (λ (n : ℕ). n + 2) (field-is _ ∙ e)
+
+      by : (b : Bool) → ltb (length rest) (f + 2) ≡ b → cond b 2304 2560 ≡ wrongOf w r rest level
+      by true t = past-says w r rest level known counted (ltb-true _ _ t)
+      by false t = bit-says-first w r rest level known (f + 2) counted (omega arith) (ltb-false _ _ t) (bit e)
+
+  pub other : otherHeader rest f ≡ wrongOf w r rest level
+  other = by (eqb (getD rest 0 0 % 256) f) refl
+    where
+      by : (b : Bool) → eqb (getD rest 0 0 % 256) f ≡ b
+          → cond b (cond (ltb (length rest) (f + 2)) 2304 2560) 2048 ≡ wrongOf w r rest level
+      by true t = past-or-bit (eqb-true _ _ t)
+      by false t = length-says w r rest level (right ∙ ap (λ (x : ℕ). eqb x f) (field-is _) ∙ t)
+
+-- of a row with one length: no header between its key and its mask has its field, but the table's
+pub other-exact : (w : Windows) (r : ℕ) (rest : List ℕ) (level : Level) (f : ℕ) → r < rowCount → theRow r .total ≡ exactly f
+    → rowOf (getD rest 0 0) ≡ r
+    → (getD rest 0 0 % 256 ≡ f → theRow r .key ≤ getD rest 0 0 → getD rest 0 0 ≤ theRow r .key + (theRow r .free + 255) → ⊥)
+    → otherHeader rest f ≡ wrongOf w r rest level
+unfolding lengthRight lengthOf
+other-exact w r rest level f known t q n =
+    let m : headerMask (theRow r) ≡ theRow r .key + (theRow r .free + 255) = rw t in
+    other w r rest level f (rw t) (rw t) (λ e. not-between r rest known q (λ b low high. n e low (omega arith)))
+
+-- a command of one dword, of a row that has neither a rule nor an address: its header alone decides
+pub one-dword : (w : Windows) (r : ℕ) (rest : List ℕ) (level : Level) → theRow r .total ≡ noField → ruleOf r ≡ noRule
+    → accessOf r ≡ noUse
+    → nested r level ≡ false → 0 < length rest → wrongOf w r rest level ≡ cond (bitWrong r rest 0) 2560 0
+unfolding lengthRight lengthOf content tested bitWrong allowedAt allowedOf valueWrong accessAt rangeWrong
+one-dword w r (x ∷ rest) level t rule uses up h =
+    whole w r (x ∷ rest) level (rw t) 1 (rw t) h ∙ rw (up, rule, uses)

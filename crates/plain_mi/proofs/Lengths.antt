@@ -1,0 +1,106 @@
+-- The length of a command, of any row: its field (8), whether it ends in the window (9), and what is left for its own dwords to say.
+-- Assumes nothing.
+use Prim.Native.Nat.{ℕ, zero, suc, _+_, _/_, _%_, _≤_, _<_}
+use native.Mathlib.Omega.{arith}
+use native.Mathlib.Numerals.{add-one}
+use mathlib.Core.Path.{_≡_, refl, sym, ap, _∙_}
+use mathlib.Core.Bool.{Bool, true, false, _&&_}
+use mathlib.Core.List.{List, [], _∷_}
+use lib.Dec.{eqb, leb}
+use lib.ListN.{length, getD, take}
+use borrow.Author.Tests.{eqb-true, leb-true, eq-eqb, ne-eqb, le-leb, le-ltb, lt-ltb}
+use Rattle.rules.specs.declared.Level.{Level}
+use Rattle.rules.specs.declared.Windows.{Windows}
+use Rattle.rules.specs.Words.{field}
+use Rattle.rules.specs.Commands.{exactly, groups, theRow, groupSize, lengthOf, lengthRight}
+use Rattle.rules.specs.Refusals.{numberOf}
+use Rattle.looks.specs.Looks.{contentOf}
+use Rattle.plain_mi.specs.Plain.{coded, wrongOf}
+
+-- "the field in bits 7:0"
+pub field-is : (x : ℕ) → field x 7 0 ≡ x % 256
+field-is x = omega arith
+
+-- a row of one length: its field is right where it is the row's one value
+module _ (r f : ℕ) (t : theRow r .total ≡ exactly f) (x : ℕ) where
+  pub exact-wrong : (x % 256 ≡ f → ⊥) → lengthRight r x ≡ false
+  unfolding lengthRight
+  exact-wrong n = rw (t, field-is x, ne-eqb (x % 256) f n)
+
+  pub exact-right : x % 256 ≡ f → lengthRight r x ≡ true
+  unfolding lengthRight
+  exact-right e = rw (t, field-is x, eq-eqb (x % 256) f e)
+
+  pub exact-long : x % 256 ≡ f → lengthOf r x ≡ f + 2
+  unfolding lengthOf
+  exact-long e = rw (t, field-is x, e)
+
+-- a row of groups: its field is right where it counts whole groups, at most as many as the row may have
+module _ (r size most : ℕ) (t : theRow r .total ≡ groups most) (g : groupSize r ≡ size) (x : ℕ) where
+  pub groups-wrong : ((x % 256 + 1) % size ≡ 0 → (x % 256 + 1) / size ≤ most → ⊥) → lengthRight r x ≡ false
+  unfolding lengthRight
+  groups-wrong n =
+      rw (t, g, field-is x)
+      (both-needed (eqb ((x % 256 + 1) % size) 0) (leb 1 ((x % 256 + 1) / size)) (leb ((x % 256 + 1) / size) most)
+      (λ p q. n (eqb-true _ _ p) (leb-true _ _ q)))
+    where
+      both-needed : (a b c : Bool) → (a ≡ true → c ≡ true → ⊥) → (a && (b && c)) ≡ false
+      both-needed false b c n = refl
+      both-needed true false c n = refl
+      both-needed true true false n = refl
+      both-needed true true true n = absurd (n refl refl)
+
+  pub groups-right : (x % 256 + 1) % size ≡ 0 → 1 ≤ (x % 256 + 1) / size → (x % 256 + 1) / size ≤ most → lengthRight r x ≡ true
+  unfolding lengthRight
+  groups-right a b c = rw (t, g, field-is x, eq-eqb _ _ a, le-leb _ _ b, le-leb _ _ c)
+
+  pub groups-long : lengthOf r x ≡ x % 256 + 2
+  unfolding lengthOf
+  groups-long = rw (t, field-is x)
+
+-- the n dwords from k on, one by one
+abbrev pub listed : List ℕ → ℕ → ℕ → List ℕ
+listed rest k zero = []
+listed rest k (suc n) = getD rest k 0 ∷ listed rest (k + 1) n
+
+pub as-many : (rest : List ℕ) (k n : ℕ) → length (listed rest k n) ≡ n
+as-many rest k zero = refl
+as-many rest k (suc n) = ap suc (as-many rest (k + 1) n)
+
+listed-behind : (x : ℕ) (rest : List ℕ) (k n : ℕ) → listed rest k n ≡ listed (x ∷ rest) (k + 1) n
+listed-behind x rest k zero = refl
+listed-behind x rest k (suc n) =
+    ap (λ (l : List ℕ). getD rest k 0 ∷ l) (listed-behind x rest (k + 1) n)
+    ∙ ap (λ (i : ℕ). getD (x ∷ rest) i 0 ∷ listed (x ∷ rest) (k + 1 + 1) n) (sym (add-one k))
+
+front : (n : ℕ) (rest : List ℕ) → n ≤ length rest → take n rest ≡ listed rest 0 n
+front zero rest h = refl
+front (suc n) [] h = absurd (omega arith)
+front (suc n) (x ∷ rest) h = ap (λ (l : List ℕ). x ∷ l) (front n rest (omega arith) ∙ listed-behind x rest 0 n)
+
+-- 8, 9, and what is left
+module _ (w : Windows) (r : ℕ) (rest : List ℕ) (level : Level) where
+  pub length-says : lengthRight r (getD rest 0 0) ≡ false → 2048 ≡ wrongOf w r rest level
+  unfolding wrongOf coded numberOf
+  length-says e = rw e
+
+  module _ (e : lengthRight r (getD rest 0 0) ≡ true) {n : ℕ} (q : lengthOf r (getD rest 0 0) ≡ n) where
+    pub past-says : length rest < n → 2304 ≡ wrongOf w r rest level
+    unfolding wrongOf coded numberOf
+    past-says h = rw (e, q, lt-ltb _ _ h)
+
+    pub content-says : n ≤ length rest → coded (contentOf w r (take n rest) 0 level) ≡ wrongOf w r rest level
+    unfolding wrongOf
+    content-says h = rw (e, q, le-ltb _ _ h)
+
+    -- with the dwords one by one: of a row and a number that are known, it computes
+    pub listed-says : n ≤ length rest → coded (contentOf w r (listed rest 0 n) 0 level) ≡ wrongOf w r rest level
+    listed-says h = ap (λ (d : List ℕ). coded (contentOf w r d 0 level)) (sym (front n rest h)) ∙ content-says h
+
+-- 9, and what is left, of a row of one length whose field is right
+module _ (r f : ℕ) (t : theRow r .total ≡ exactly f) (w : Windows) (rest : List ℕ) (level : Level) (e : getD rest 0 0 % 256 ≡ f) where
+  pub exact-past : length rest < f + 2 → 2304 ≡ wrongOf w r rest level
+  exact-past h = past-says w r rest level (exact-right r f t _ e) (exact-long r f t _ e) h
+
+  pub exact-says : f + 2 ≤ length rest → {x : ℕ} → x ≡ coded (contentOf w r (listed rest 0 (f + 2)) 0 level) → x ≡ wrongOf w r rest level
+  exact-says h q = q ∙ listed-says w r rest level (exact-right r f t _ e) (exact-long r f t _ e) h

@@ -1,0 +1,357 @@
+// Rows 0 to 6, the commands of type 0, in the table's order: each row's rules in the order of their numbers, beside document 01's words.
+ghost use mathlib.Core.Path.{_≡_};
+ghost use mathlib.Core.Bool.{cond, false};
+ghost use mathlib.Core.List.{[], _∷_};
+ghost use Prim.Native.Nat.{_≤_, _<_, _-_};
+ghost use lib.ListN.{length, getD};
+ghost use Rattle.rules.specs.declared.Level.the-variants.{First};
+ghost use Rattle.rules.specs.declared.Reason.the-variants.{BitNotAllowed, ValueBroken};
+ghost use Rattle.rules.specs.Words.{bit};
+ghost use Rattle.rules.specs.Commands.{noopRow, endRow, startRow, storeRow, storeRegisterRow, loadRegisterRow, rowOf, setRegistersRow};
+ghost use Rattle.rules.specs.Masks.{bitWrong};
+ghost use Rattle.rules.specs.Step.{nested};
+ghost use Rattle.plain_mi.specs.Plain.{firstCoded, wrongOf, bareOf, registerOf, coded, noWindows, cleanFrom, Groups, GroupAt};
+ghost use Rattle.rules.specs.Values.{valueWrong};
+ghost use Rattle.looks.specs.Looks.{contentOf};
+use crate::heads::other_header;
+use crate::numbers::BIT;
+use crate::numbers::LENGTH;
+use crate::numbers::NESTED;
+use crate::numbers::NOTHING;
+use crate::numbers::PAST;
+use crate::numbers::RANGE;
+use crate::numbers::VALUE;
+use crate::numbers::at;
+use formats::known_register;
+use rules::Level;
+use rules::Windows;
+use windows::anywhere;
+use words::allowed;
+use words::dwords::address_of;
+use words::holds;
+
+// 0: MI_NOOP.
+pub fn noop(header: u32) -> usize
+    ensures { λ r. ⌜ r ≡ bareOf noopRow (header ∷ []) ⌝ }
+{
+    // 10: "00000000h + bits 21:0"
+    if !allowed(header, 0x003F_FFFF) {
+        return at(BIT, 0);
+    }
+    NOTHING
+}
+
+// 1: MI_BATCH_BUFFER_END.
+pub fn end(header: u32) -> usize
+    requires { ⌜ rowOf header ≡ endRow ⌝ }
+    ensures { λ r. ⌜ r ≡ bareOf endRow (header ∷ []) ⌝ }
+{
+    // 10: "05000000h"
+    if header != 0x0500_0000 {
+        return at(BIT, 0);
+    }
+    NOTHING
+}
+
+// Whether a start would be the second inside the other.
+fn is_nested(level: Level) -> bool
+    ensures { λ r. ⌜ r ≡ nested startRow level ⌝ }
+{
+    match level {
+        Level::First => false,
+        Level::Second(_) => true,
+    }
+}
+
+// 2: MI_BATCH_BUFFER_START.
+pub fn start(w: Windows, level: Level, rest: &[u32]) -> usize
+    requires { ⌜ 0 < length (now rest) ⌝ }
+    ensures { λ r. ⌜ r ≡ wrongOf w startRow (now (rest .entry)) level ⌝ }
+{
+    let header = rest[0];
+    // 8, 9
+    if header % 256 != 1 {
+        return at(LENGTH, 0);
+    }
+    if rest.len() < 3 {
+        return at(PAST, 0);
+    }
+    // 10: "18800001h + bits 22, 8", "address FFFFFFFCh"
+    if !allowed(header, 0x18C0_01FF) {
+        return at(BIT, 0);
+    }
+    if !allowed(rest[1], 0xFFFF_FFFC) {
+        return at(BIT, 1);
+    }
+    if !allowed(rest[2], 0x0000_FFFF) {
+        return at(BIT, 2);
+    }
+    // 11: "batch start while in a second-level batch"
+    if is_nested(level) {
+        return at(NESTED, 0);
+    }
+    // 12: "bit 8 set"
+    if header / 0x100 % 2 != 1 {
+        return at(VALUE, 0);
+    }
+    // 13: "row 2 target (4 bytes) in the batch window"
+    if !holds(w.batch, address_of(rest[1], rest[2]), 4) {
+        return at(RANGE, 1);
+    }
+    NOTHING
+}
+
+// 3: MI_LOAD_REGISTER_IMM.
+pub fn set_registers(rest: &[u32]) -> usize
+    requires { ⌜ (0 < length (now rest)) × (rowOf (getD (now rest) 0 0) ≡ setRegistersRow) ⌝ }
+    ensures { λ r. ⌜ r ≡ bareOf setRegistersRow (now (rest .entry)) ⌝ }
+{
+    let header = rest[0];
+    let field = header % 256;
+    // 8: "field 2n-1, n 1..64"
+    if field % 2 != 1 {
+        return at(LENGTH, 0);
+    }
+    if 127 < field {
+        return at(LENGTH, 0);
+    }
+    // 9
+    let length = field as usize + 2;
+    if rest.len() < length {
+        return at(PAST, 0);
+    }
+    // 10: "11000000h"
+    if header - field != 0x1100_0000 {
+        return at(BIT, 0);
+    }
+    pairs(&rest[..length])
+}
+
+// 10: "pairs: 007FFFFCh, free", of the pair at k.
+fn pair_bit(d: &[u32], k: usize) -> usize
+    requires { ⌜ GroupAt 2 (now d) k ⌝ }
+    ensures { λ r. ⌜ r ≡ firstCoded BitNotAllowed (bitWrong setRegistersRow (now (d .entry))) k 2 ⌝ }
+{
+    if !allowed(d[k], 0x007F_FFFC) {
+        return at(BIT, k);
+    }
+    NOTHING
+}
+
+// 12: "register is 2400h, ..", of the pair at k.
+fn pair_value(d: &[u32], k: usize) -> usize
+    requires { ⌜ GroupAt 2 (now d) k ⌝ }
+    ensures { λ r. ⌜ r ≡ firstCoded ValueBroken (valueWrong setRegistersRow (now (d .entry))) k 2 ⌝ }
+{
+    if !known_register(d[k]) {
+        return at(VALUE, k);
+    }
+    NOTHING
+}
+
+// The first 10 of all pairs.
+fn pair_bits(d: &[u32]) -> usize
+    requires { ⌜ Groups 2 (now d) ⌝ }
+    ensures { λ r. ⌜ r ≡ firstCoded BitNotAllowed (bitWrong setRegistersRow (now (d .entry))) 1 (length (now (d .entry)) - 1) ⌝ }
+{
+    let mut k = 1;
+    while k < d.len() {
+        let bit = pair_bit(d, k);
+        if bit != NOTHING {
+            return bit;
+        }
+        k += 2;
+    }
+    NOTHING
+}
+
+// The first 12 of all pairs.
+fn pair_values(d: &[u32]) -> usize
+    requires { ⌜ Groups 2 (now d) ⌝ }
+    ensures { λ r. ⌜ r ≡ firstCoded ValueBroken (valueWrong setRegistersRow (now (d .entry))) 1 (length (now (d .entry)) - 1) ⌝ }
+{
+    let mut k = 1;
+    while k < d.len() {
+        let value = pair_value(d, k);
+        if value != NOTHING {
+            return value;
+        }
+        k += 2;
+    }
+    NOTHING
+}
+
+// Whether nothing is wrong with any pair.
+fn pairs_good(d: &[u32]) -> bool
+    requires { ⌜ Groups 2 (now d) ⌝ }
+    ensures { λ r. ⌜ r ≡ cleanFrom noWindows setRegistersRow (now (d .entry)) 1 (length (now (d .entry)) - 1) ⌝ }
+{
+    let mut k = 1;
+    while k < d.len() {
+        if pair_bit(d, k) != NOTHING {
+            return false;
+        }
+        if pair_value(d, k) != NOTHING {
+            return false;
+        }
+        k += 2;
+    }
+    true
+}
+
+// All pairs: most are in order, and else the first 10 goes before the first 12, wherever they stand.
+fn pairs(d: &[u32]) -> usize
+    requires { ⌜ (Groups 2 (now d)) × (bitWrong setRegistersRow (now d) 0 ≡ false) ⌝ }
+    ensures { λ r. ⌜ r ≡ coded (contentOf noWindows setRegistersRow (now (d .entry)) 0 First) ⌝ }
+{
+    if pairs_good(d) {
+        return NOTHING;
+    }
+    let bit = pair_bits(d);
+    if bit != NOTHING {
+        return bit;
+    }
+    pair_values(d)
+}
+
+// The field of a store: "bit 21 and field 3 go together, as do clear and 2 (else 8)".
+fn store_field(header: u32) -> u32
+    ensures { λ r. ⌜ r ≡ cond (bit header 21) 3 2 ⌝ }
+{
+    if header / 0x20_0000 % 2 == 1 { 3 } else { 2 }
+}
+
+// 4: MI_STORE_DATA_IMM.
+pub fn store(w: Windows, rest: &[u32]) -> usize
+    requires { ⌜ (0 < length (now rest)) × (rowOf (getD (now rest) 0 0) ≡ storeRow) ⌝ }
+    ensures { λ r. ⌜ r ≡ wrongOf w storeRow (now (rest .entry)) First ⌝ }
+{
+    match rest[0] {
+        // "10000002h, or 10200003h"
+        0x1000_0002 => store_four(w, rest),
+        0x1020_0003 => store_eight(w, rest),
+        header => other_header(rest, store_field(header)),
+    }
+}
+
+// 10: "address FFFFFFFCh, 1 or 2 free".
+fn store_bit(rest: &[u32]) -> usize
+    requires { ⌜ 3 ≤ length (now rest) ⌝ }
+    ensures { λ r. ⌜ r ≡ firstCoded BitNotAllowed (bitWrong storeRow (now (rest .entry))) 1 2 ⌝ }
+{
+    if !allowed(rest[1], 0xFFFF_FFFC) {
+        return at(BIT, 1);
+    }
+    if !allowed(rest[2], 0x0000_FFFF) {
+        return at(BIT, 2);
+    }
+    NOTHING
+}
+
+fn store_four(w: Windows, rest: &[u32]) -> usize
+    requires { ⌜ (0 < length (now rest)) × (getD (now rest) 0 0 ≡ 0x10000002) ⌝ }
+    ensures { λ r. ⌜ r ≡ wrongOf w storeRow (now (rest .entry)) First ⌝ }
+{
+    if rest.len() < 4 {
+        return at(PAST, 0);
+    }
+    let bit = store_bit(rest);
+    if bit != NOTHING {
+        return bit;
+    }
+    // 13: "rows 4 (4 or 8 bytes) .. in scratch"
+    if !holds(w.scratch, address_of(rest[1], rest[2]), 4) {
+        return at(RANGE, 1);
+    }
+    NOTHING
+}
+
+fn store_eight(w: Windows, rest: &[u32]) -> usize
+    requires { ⌜ (0 < length (now rest)) × (getD (now rest) 0 0 ≡ 0x10200003) ⌝ }
+    ensures { λ r. ⌜ r ≡ wrongOf w storeRow (now (rest .entry)) First ⌝ }
+{
+    if rest.len() < 5 {
+        return at(PAST, 0);
+    }
+    let bit = store_bit(rest);
+    if bit != NOTHING {
+        return bit;
+    }
+    // 12: "an eight-byte store address is a multiple of 8"
+    if rest[1] % 8 != 0 {
+        return at(VALUE, 1);
+    }
+    // 13: "rows 4 (4 or 8 bytes) .. in scratch"
+    if !holds(w.scratch, address_of(rest[1], rest[2]), 8) {
+        return at(RANGE, 1);
+    }
+    NOTHING
+}
+
+// 5: MI_STORE_REGISTER_MEM.
+pub fn store_register(w: Windows, rest: &[u32]) -> usize
+    requires { ⌜ (0 < length (now rest)) × (rowOf (getD (now rest) 0 0) ≡ storeRegisterRow) ⌝ }
+    ensures { λ r. ⌜ r ≡ wrongOf w storeRegisterRow (now (rest .entry)) First ⌝ }
+{
+    // 8, 9, 10: "12000002h"
+    if rest[0] != 0x1200_0002 {
+        return other_header(rest, 2);
+    }
+    if rest.len() < 4 {
+        return at(PAST, 0);
+    }
+    let wrong = register_and_address(rest);
+    if wrong != NOTHING {
+        return wrong;
+    }
+    // 13: "5 (4) .. in scratch"
+    if !holds(w.scratch, address_of(rest[2], rest[3]), 4) {
+        return at(RANGE, 2);
+    }
+    NOTHING
+}
+
+// 6: MI_LOAD_REGISTER_MEM.
+pub fn load_register(w: Windows, rest: &[u32]) -> usize
+    requires { ⌜ (0 < length (now rest)) × (rowOf (getD (now rest) 0 0) ≡ loadRegisterRow) ⌝ }
+    ensures { λ r. ⌜ r ≡ wrongOf w loadRegisterRow (now (rest .entry)) First ⌝ }
+{
+    // 8, 9, 10: "14800002h"
+    if rest[0] != 0x1480_0002 {
+        return other_header(rest, 2);
+    }
+    if rest.len() < 4 {
+        return at(PAST, 0);
+    }
+    let wrong = register_and_address(rest);
+    if wrong != NOTHING {
+        return wrong;
+    }
+    // 13: "row 6 (4) in any window"
+    if !anywhere(w, address_of(rest[2], rest[3]), 4) {
+        return at(RANGE, 2);
+    }
+    NOTHING
+}
+
+// 10 and 12 of rows 5 and 6, "as row 5".
+fn register_and_address(rest: &[u32]) -> usize
+    requires { ⌜ 4 ≤ length (now rest) ⌝ }
+    ensures { λ r. ⌜ r ≡ registerOf (now (rest .entry)) ⌝ }
+{
+    // 10: "007FFFFCh, address FFFFFFFCh"
+    if !allowed(rest[1], 0x007F_FFFC) {
+        return at(BIT, 1);
+    }
+    if !allowed(rest[2], 0xFFFF_FFFC) {
+        return at(BIT, 2);
+    }
+    if !allowed(rest[3], 0x0000_FFFF) {
+        return at(BIT, 3);
+    }
+    // 12: "register is 2400h, .."
+    if !known_register(rest[1]) {
+        return at(VALUE, 1);
+    }
+    NOTHING
+}
