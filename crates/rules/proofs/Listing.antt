@@ -61,7 +61,7 @@ pub with-record-long : (words : List ℕ) {n : ℕ} (k : Command) → n < roomOf
 unfolding withRecord
 with-record-long words {n} k h =
     let there = room-has-words (n + 1) (length words) (omega arith) in
-    let one-record = words-counted (k ∷ []) in
+    let record-words = words-counted (k ∷ []) in
     let behind = length-drop (wordsFor (n + 1)) words in
     rw (length-append, length-append, length-take-le (wordsFor n) words (omega (arith, words-for-more n 1)))
     (omega (arith, words-for-more n 1))

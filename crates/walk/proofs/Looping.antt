@@ -47,7 +47,6 @@ use Rattle.walk.specs.Lent.{keptAt, stopFor, Ran}
 pub record SoFar (base : Base) (c : Capture) (old new : List ℕ) (n : ℕ) (r : Run) : Type 0 where
   pub done : List Command
   pub count : length done ≡ n
-  pub room : n ≤ roomOf (length old)
   pub stand : new ≡ wordsOf done ++ drop (wordsFor n) old
   pub gives : cut (roomOf (length old)) (traceFrom budget c (start base)) ≡ follow done r
 
@@ -67,12 +66,11 @@ ran {old = old} {n = n} {v = v} s = record {
 
 -- one command more is done, and its record written
 pub wrote : {base : Base} {c : Capture} {old new : List ℕ} {n : ℕ} {k : Command} {r : Run} → SoFar base c old new n (then k r)
-    → n < roomOf (length old) → SoFar base c old (withRecord new n k) (n + 1) r
+    → SoFar base c old (withRecord new n k) (n + 1) r
 unfolding follow
-wrote {old = old} {new = new} {n = n} {k = k} {r = r} s h = record {
+wrote {old = old} {k = k} {r = r} s = record {
   done = s .done ++ (k ∷ []);
   count = length-append (s .done) (k ∷ []) ∙ ap (λ (m : ℕ). m + 1) (s .count);
-  room = omega arith;
   stand = rw (s .stand) (record-added (s .done) k old (s .count));
   gives = s .gives ∙ sym (follow-join (s .done) (k ∷ []) r);
 }
@@ -127,7 +125,6 @@ begun base c old m = record {
   so-far = record {
     done = [];
     count = refl;
-    room = omega arith;
     stand = rw no-words;
     gives = ap (λ (k : ℕ). cut k (traceFrom budget c (start base))) (sym (sub-zero (roomOf (length old))));
   };
@@ -169,7 +166,7 @@ module _ {base : Base} {c : Capture} {old new : List ℕ} {n : ℕ} {s : Cursor}
   pub last : {k : Command} → n < budget → n < roomOf (length old) → stepOf c s ≡ Taken k Ends
       → Ran base c old (answerWith Pass (n + 1)) (withRecord new n k)
   unfolding trace cut
-  last h l e = ran (wrote (rw (left budget n h, left (roomOf (length old)) n l, e) at (g .so-far)) l)
+  last h l e = ran (wrote (rw (left budget n h, left (roomOf (length old)) n l, e) at (g .so-far)))
 
   pub next : {k : Command} {t : Cursor} → n < budget → n < roomOf (length old) → stepOf c s ≡ Taken k (To t)
       → Going base c old (withRecord new n k) (n + 1) t
@@ -179,7 +176,7 @@ module _ {base : Base} {c : Capture} {old new : List ℕ} {n : ℕ} {s : Cursor}
     small = small-next c s (g .small) e;
     within = stays-within c s (g .within) e;
     same = with-record-long new _ (omega (arith, ap roomOf (g .same))) ∙ g .same;
-    so-far = wrote (rw (left budget n h, left (roomOf (length old)) n l, e) at (g .so-far)) l;
+    so-far = wrote (rw (left budget n h, left (roomOf (length old)) n l, e) at (g .so-far));
   }
 
   -- a command that is not taken stops the run: for the budget, where that is spent, and else for its own fault
