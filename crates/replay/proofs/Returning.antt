@@ -80,10 +80,10 @@ module _ (c : Capture) (s : Cursor) (m : Machine) (g : Agrees c s m) (k : Comman
   -- and one that ends the run is at level 0
   pub ends-first : stepOf c s ≡ Taken k Ends → fetchedCommand m .level ≡ 1 → ⊥
   unfolding walkCommand
-  ends-first e one = by Ends refl (taken-way c s e)
+  ends-first e second = by Ends refl (taken-way c s e)
     where
       by : (a : After) → a ≡ Ends → Way c s a → ⊥
-      by a q (ends r l) = let z : _≡_ {A = ℕ} 0 1 = ap Rattle.rules.specs.Step.levelNumber (sym l) ∙ ap (λ (j : Command). j .level) (sym (told e)) ∙ one in omega arith
+      by a q (ends r l) = let z : _≡_ {A = ℕ} 0 1 = ap Rattle.rules.specs.Step.levelNumber (sym l) ∙ ap (λ (j : Command). j .level) (sym (told e)) ∙ second in omega arith
       by a q (returns r l) = absurd (ends-nowhere (sym q))
       by a q (jumps r b) = absurd (ends-nowhere (sym q))
       by a q (calls r b) = absurd (ends-nowhere (sym q))

@@ -47,7 +47,7 @@ pub record Passed (c : Capture) (s : Cursor) : Type 0 where
   pub ranges : (k : ℕ) → k < lengthAt (c .batch) (s .at)
       → rangeWrong (windowsOf c) (rowAt (c .batch) (s .at)) (dwordsAt (c .batch) (s .at)) k ≡ false
   pub based : baseMissing (pointerOf (rowAt (c .batch) (s .at)) (dwordsAt (c .batch) (s .at))) (s .base) ≡ false
-  pub held : ofStructure structureNowhere (here c s) ≡ Pass
+  pub somewhere : ofStructure structureNowhere (here c s) ≡ Pass
   pub structureBits : ofStructure structureBit (here c s) ≡ Pass
   pub structureValues : ofStructure structureValue (here c s) ≡ Pass
 
@@ -118,7 +118,7 @@ passed c s e =
       values = each-clear _ _ (search-clear _ _ _ _ (p .1 .1 .1 .1 .1 .1 .0));
       ranges = each-clear _ _ (search-clear _ _ _ _ (p .1 .1 .1 .1 .1 .1 .1 .0));
       based = refuse-passes _ _ (p .1 .1 .1 .1 .1 .1 .1 .1 .0);
-      held = p .1 .1 .1 .1 .1 .1 .1 .1 .1 .0;
+      somewhere = p .1 .1 .1 .1 .1 .1 .1 .1 .1 .0;
       structureBits = p .1 .1 .1 .1 .1 .1 .1 .1 .1 .1 .0;
       structureValues = p .1 .1 .1 .1 .1 .1 .1 .1 .1 .1 .1 .0;
     }
