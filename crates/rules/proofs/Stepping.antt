@@ -63,7 +63,7 @@ taken-command e = cc
 taken-after : {k l : Command} {a b : After} → Taken k a ≡ Taken l b → b ≡ a
 taken-after e = cc
 
-pub never-taken : {f : Fault} {k : Command} {a : After} → Refused f ≡ Taken k a → ⊥
+never-taken : {f : Fault} {k : Command} {a : After} → Refused f ≡ Taken k a → ⊥
 never-taken e = let z : _≡_ {A = ℕ} 0 1 = cc in omega arith
 
 pub took : (c : Capture) (s : Cursor) {k : Command} {a : After} → stepOf c s ≡ Taken k a → Took c s k a

@@ -29,11 +29,11 @@ pub start-reaches : (d : List ℕ) → accessAt startRow d 1 ≡ Reaches 4 Batch
 unfolding accessAt accessOf usesByRow rows theRow groupSize inGroup
 start-reaches d = refl
 
-pub store-reaches : (d : List ℕ) → accessAt storeRow d 1 ≡ Reaches (cond (eightBytes d) 8 4) ScratchOnly
+store-reaches : (d : List ℕ) → accessAt storeRow d 1 ≡ Reaches (cond (eightBytes d) 8 4) ScratchOnly
 unfolding accessAt accessOf usesByRow rows theRow groupSize inGroup
 store-reaches d = refl
 
-pub store-register-reaches : (d : List ℕ) → accessAt storeRegisterRow d 2 ≡ Reaches 4 ScratchOnly
+store-register-reaches : (d : List ℕ) → accessAt storeRegisterRow d 2 ≡ Reaches 4 ScratchOnly
 unfolding accessAt accessOf usesByRow rows theRow groupSize inGroup
 store-register-reaches d = refl
 
@@ -41,7 +41,7 @@ pub load-register-reaches : (d : List ℕ) → accessAt loadRegisterRow d 2 ≡ 
 unfolding accessAt accessOf usesByRow rows theRow groupSize inGroup
 load-register-reaches d = refl
 
-pub pipe-reaches : (d : List ℕ) → (postSync d ≡ 0 → ⊥) → accessAt pipeRow d 2 ≡ Reaches 8 ScratchOnly
+pipe-reaches : (d : List ℕ) → (postSync d ≡ 0 → ⊥) → accessAt pipeRow d 2 ≡ Reaches 8 ScratchOnly
 unfolding accessAt accessOf usesByRow rows theRow groupSize inGroup
 pipe-reaches d h = rw (ne-eqb (postSync d) 0 h)
 
