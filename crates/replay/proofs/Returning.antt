@@ -4,11 +4,9 @@ use Prim.Native.Nat.{ℕ, _+_}
 use native.Mathlib.Omega.{arith}
 use mathlib.Core.Path.{_≡_, refl, sym, ap, _∙_}
 use mathlib.Core.Bool.{true}
-use mathlib.Core.List.{List, [], _∷_}
+use mathlib.Core.List.{List, _∷_}
 use mathlib.Core.Logic.{inl, inr}
 use lib.ListN.{getD}
-use Rattle.rules.specs.declared.Base.{Base}
-use Rattle.rules.specs.declared.Level.{Level}
 use Rattle.rules.specs.declared.Level.the-variants.{First, Second}
 use Rattle.rules.specs.declared.Cursor.{Cursor}
 use Rattle.rules.specs.declared.Command.{Command}
@@ -18,7 +16,7 @@ use Rattle.rules.specs.declared.Outcome.the-variants.{Taken}
 use Rattle.rules.specs.Words.{bit}
 use Rattle.rules.specs.Windows.{Capture}
 use Rattle.rules.specs.Commands.{endRow, startRow}
-use Rattle.rules.specs.Step.{headerAt, rowAt, lengthAt, dwordsAt, commandAt as walkCommand, stepOf}
+use Rattle.rules.specs.Step.{rowAt, dwordsAt, commandAt as walkCommand, stepOf}
 use Rattle.rules.proofs.Stepping.{took, passed}
 use Rattle.rules.proofs.Moving.{Way, ends, returns, jumps, calls, goes-on, taken-way, nextAt, same-cursor, ends-nowhere, first-keeps-none, same-kept, return-level}
 use Rattle.replay.specs.Streamer.{Machine, Effect}

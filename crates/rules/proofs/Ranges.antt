@@ -1,12 +1,12 @@
 -- A range that fits lies in exactly one window, and no sum in it wraps or runs over the window's end.
 -- Assumes nothing.
-use Prim.Native.Nat.{ℕ, zero, suc, _+_, _-_, _*_, _/_, _%_, _^_, _≤_, _<_}
+use Prim.Native.Nat.{ℕ, zero, suc, _+_, _-_, _%_, _^_, _≤_, _<_}
 use native.Mathlib.Nat.{le-of-suc-le-suc, not-suc-le-zero}
 use native.Mathlib.Omega.{arith}
-use mathlib.Core.Path.{_≡_, refl, sym, ap, _∙_}
-use mathlib.Core.Bool.{Bool, true, false, _&&_, _||_}
+use mathlib.Core.Path.{_≡_, refl}
+use mathlib.Core.Bool.{Bool, true, false}
 use mathlib.Core.List.{List, [], _∷_}
-use mathlib.Core.Logic.{_⊎_, inl, inr, ⊎-elim}
+use mathlib.Core.Logic.{_⊎_, ⊎-elim}
 use lib.ListN.{length, getD}
 use lib.Dec.{leb, ltb, eqb}
 use borrow.Author.Tests.{leb-true, ltb-true, lt-ltb, ltb-false, eqb-true, not-false}
@@ -15,8 +15,8 @@ use Rattle.rules.specs.declared.Windows.{Windows}
 use Rattle.rules.specs.declared.Within.the-variants.{BatchOnly, ScratchOnly, AnyWindow}
 use Rattle.rules.specs.declared.Verdict.the-variants.{Pass}
 use Rattle.rules.specs.Words.{some, someTwo}
-use Rattle.rules.specs.Windows.{Capture, windowLimit, pageBytes, countsWrong, unaligned, window, listed, end, windowsOf}
-use Rattle.rules.specs.Windows.{endsTooHigh, shareByte, windowChecks, lengthsOf, Lengths, windowFault, holds, Inside, windowsWithin, fits}
+use Rattle.rules.specs.Windows.{windowLimit, pageBytes, countsWrong, unaligned, window, listed, end}
+use Rattle.rules.specs.Windows.{endsTooHigh, shareByte, windowChecks, Lengths, windowFault, holds, Inside, windowsWithin, fits}
 use Rattle.rules.proofs.Searching.{either, never-both, some-left, some-right, or-cases, and-left, and-right}
 use Rattle.rules.proofs.Trying.{all-pass, refuse-passes}
 

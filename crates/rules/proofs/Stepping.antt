@@ -1,34 +1,32 @@
 -- What a command that is taken has passed: each of the checks 6 to 17, said of the command's own dwords.
 -- Assumes nothing.
-use Prim.Native.Nat.{ℕ, zero, suc, _+_, _≤_, _<_}
+use Prim.Native.Nat.{ℕ, _+_, _≤_, _<_}
 use native.Mathlib.Omega.{arith}
-use mathlib.Core.Path.{_≡_, refl, sym, ap, _∙_}
-use mathlib.Core.Bool.{Bool, true, false, not}
-use mathlib.Core.List.{List, [], _∷_}
+use mathlib.Core.Path.{_≡_, refl, ap}
+use mathlib.Core.Bool.{Bool, true, false}
 use lib.ListN.{length}
 use borrow.Author.Tests.{ltb-false, leb-false, not-false}
 use Rattle.rules.specs.declared.Cursor.{Cursor}
 use Rattle.rules.specs.declared.Command.{Command}
 use Rattle.rules.specs.declared.After.{After}
-use Rattle.rules.specs.declared.Outcome.{Outcome}
 use Rattle.rules.specs.declared.Outcome.the-variants.{Taken, Refused}
 use Rattle.rules.specs.declared.Found.the-variants.{Nothing}
 use Rattle.rules.specs.declared.Fault.{Fault}
 use Rattle.rules.specs.declared.Verdict.{Verdict}
 use Rattle.rules.specs.declared.Verdict.the-variants.{Pass, Fails}
 use Rattle.rules.specs.Words.{firstOf}
-use Rattle.rules.specs.Refusals.{firstFault, AllPass}
+use Rattle.rules.specs.Refusals.{firstFault}
 use Rattle.rules.specs.Windows.{Capture, windowsOf}
 use Rattle.rules.specs.Commands.{rowCount, lengthRight}
 use Rattle.rules.specs.Masks.{bitWrong}
 use Rattle.rules.specs.Values.{valueWrong}
 use Rattle.rules.specs.Addresses.{rangeWrong}
 use Rattle.rules.specs.Structures.{structureNowhere, structureBit, structureValue, structureChecks}
-use Rattle.rules.specs.Step.{Here, here, headerAt, rowAt, lengthAt, dwordsAt, pointerOf, nested, baseMissing, ofStructure}
+use Rattle.rules.specs.Step.{here, headerAt, rowAt, lengthAt, dwordsAt, pointerOf, nested, baseMissing, ofStructure}
 use Rattle.rules.specs.Step.{ranOff, unknownHeader, wrongLength, pastTheWindow, bitNotAllowed, nestedStart, valueBroken}
 use Rattle.rules.specs.Step.{rangeOutside, baseNeverSet, stepChecks, moveOf, commandAt, outcomeOf, stepOf}
 use Rattle.rules.proofs.Searching.{none-found}
-use Rattle.rules.proofs.Trying.{all-pass, no-fault, refuse-passes, search-clear, fails-not-pass}
+use Rattle.rules.proofs.Trying.{all-pass, refuse-passes, search-clear}
 
 -- what the walk does with a command that passes
 abbrev pub moveAt : Capture → Cursor → After

@@ -4,7 +4,7 @@ use lib.Ieee.{ofBits, nanBits, le}
 use Rattle.rules.specs.Words.{allowed, some, someTwo, firstFrom, inGroup}
 use Rattle.rules.specs.Refusals.{numberOf, tried, answerWith, told}
 use Rattle.rules.specs.Windows.{windowsOf, countsWrong, windowChecks, windowFault, holds, windowsWithin, fits, holdsDwords, heldAt, partOf}
-use Rattle.rules.specs.Commands.{rows, rowCount, theRow, keyOf, rowFrom, rowOf, lengthOf, groupSize, lengthRight}
+use Rattle.rules.specs.Commands.{rows, theRow, keyOf, rowFrom, rowOf, lengthOf, groupSize, lengthRight}
 use Rattle.rules.specs.Uses.{usesByRow, accessOf, accessAt, addressAt}
 use Rattle.rules.specs.Masks.{masksOf, allowedOf, allowedAt, bitWrong}
 use Rattle.rules.specs.Formats.{surfaceFormats, formatBits, knownTopology, knownRegister}
