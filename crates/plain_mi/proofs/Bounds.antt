@@ -85,13 +85,13 @@ AllNear v = (f : Fault) → v ≡ Fails f → Near f
 abbrev Numbered : Reason → Type 0
 Numbered reason = (7 ≤ numberOf reason) × (numberOf reason < 14)
 
-near-at : (reason : Reason) (i : ℕ) → Numbered reason → i < 256 → Near (fault reason batchWindow i)
+pub near-at : (reason : Reason) (i : ℕ) → Numbered reason → i < 256 → Near (fault reason batchWindow i)
 near-at reason i n h = record { least = n .0; most = n .1; window = refl; place = h }
 
 nothing-near : AllNear Pass
 nothing-near f e = absurd (fails-not-pass (sym e))
 
-fault-near : {g : Fault} → Near g → AllNear (Fails g)
+pub fault-near : {g : Fault} → Near g → AllNear (Fails g)
 fault-near n f e = subst (λ (h : Fault). Near h) (same-fault e) n
 
 else-near : (u v : Verdict) → AllNear u → AllNear v → AllNear (orElse u v)

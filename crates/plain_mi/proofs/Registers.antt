@@ -15,7 +15,7 @@ use Rattle.rules.specs.Words.{allowed, inGroup}
 use Rattle.rules.specs.Refusals.{numberOf}
 use Rattle.rules.specs.Windows.{fits}
 use Rattle.rules.specs.Formats.{knownRegister}
-use Rattle.rules.specs.Commands.{rows, theRow, groupSize, lengthOf, lengthRight}
+use Rattle.rules.specs.Commands.{loadRegisterRow, storeRegisterRow, rows, theRow, groupSize, lengthOf, lengthRight}
 use Rattle.rules.specs.Uses.{usesByRow, accessOf, accessAt, addressAt}
 use Rattle.rules.specs.Masks.{masksOf, allowedOf, allowedAt, bitWrong}
 use Rattle.rules.specs.Values.{valueRules, ruleOf, valueWrong}
@@ -32,14 +32,14 @@ registers d later =
 
 -- the same, by the dwords' numbers
 abbrev pub both : List ℕ → ℕ → ℕ
-both d later = tested 10 (bitWrong 5 d) 1 3 (tested 12 (valueWrong 5 d) 1 3 later)
+both d later = tested 10 (bitWrong storeRegisterRow d) 1 3 (tested 12 (valueWrong storeRegisterRow d) 1 3 later)
 
 module _ (d : List ℕ) where
   register-both : registerOf d ≡ both d 0
   unfolding numberOf
   register-both =
-      searched BitNotAllowed (bitWrong 5 d) 1 3 _
-      ∙ ap (tested 10 (bitWrong 5 d) 1 3) (searched-last ValueBroken (valueWrong 5 d) 1 3)
+      searched BitNotAllowed (bitWrong storeRegisterRow d) 1 3 _
+      ∙ ap (tested 10 (bitWrong storeRegisterRow d) 1 3) (searched-last ValueBroken (valueWrong storeRegisterRow d) 1 3)
 
   pub register-tested : registerOf d ≡ registers d 0
   unfolding tested bitWrong allowedAt allowedOf masksOf rows theRow groupSize inGroup valueRules ruleOf valueWrong
@@ -49,12 +49,12 @@ module _ (d : List ℕ) where
 abbrev pub Registers : Windows → ℕ → List ℕ → Within → Type 0
 Registers w r rest within = Own w r rest First 4 (both rest (cond (not (fits w within (addressAt rest 2) 4)) 3330 0))
 
-pub stores : (w : Windows) (rest : List ℕ) → getD rest 0 0 ≡ 0x12000002 → Registers w 5 rest ScratchOnly
+pub stores : (w : Windows) (rest : List ℕ) → getD rest 0 0 ≡ 0x12000002 → Registers w storeRegisterRow rest ScratchOnly
 unfolding rows theRow lengthRight lengthOf groupSize inGroup content tested allowed masksOf allowedOf allowedAt bitWrong
     valueRules ruleOf valueWrong usesByRow accessOf accessAt addressAt rangeWrong
 stores w rest e = record { right = rw e; long = rw e; same = rw e }
 
-pub loads : (w : Windows) (rest : List ℕ) → getD rest 0 0 ≡ 0x14800002 → Registers w 6 rest AnyWindow
+pub loads : (w : Windows) (rest : List ℕ) → getD rest 0 0 ≡ 0x14800002 → Registers w loadRegisterRow rest AnyWindow
 unfolding rows theRow lengthRight lengthOf groupSize inGroup content tested allowed masksOf allowedOf allowedAt bitWrong
     valueRules ruleOf valueWrong usesByRow accessOf accessAt addressAt rangeWrong
 loads w rest e = record { right = rw e; long = rw e; same = rw e }
@@ -65,13 +65,13 @@ module _ (rest : List ℕ) {x : ℕ} (e : x ≡ registerOf rest) (later : ℕ) w
   refused n =
       e
       ∙ register-both rest
-      ∙ stopped 10 (lit≤ tt) (bitWrong 5 rest) 1 3 (λ z. n (e ∙ register-both rest ∙ z))
-      (λ m. stopped 12 (lit≤ tt) (valueWrong 5 rest) 1 3 m (λ z. absurd (z refl)))
+      ∙ stopped 10 (lit≤ tt) (bitWrong storeRegisterRow rest) 1 3 (λ z. n (e ∙ register-both rest ∙ z))
+      (λ m. stopped 12 (lit≤ tt) (valueWrong storeRegisterRow rest) 1 3 m (λ z. absurd (z refl)))
 
   passes : x ≡ 0 → later ≡ both rest later
   passes z =
-      let bits = passed 10 (lit≤ tt) (bitWrong 5 rest) 1 3 (sym (register-both rest) ∙ sym e ∙ z) in
-      sym (passed 12 (lit≤ tt) (valueWrong 5 rest) 1 3 (bits .0) .1) ∙ sym (bits .1)
+      let bits = passed 10 (lit≤ tt) (bitWrong storeRegisterRow rest) 1 3 (sym (register-both rest) ∙ sym e ∙ z) in
+      sym (passed 12 (lit≤ tt) (valueWrong storeRegisterRow rest) 1 3 (bits .0) .1) ∙ sym (bits .1)
 
 module _ {w : Windows} {r : ℕ} {rest : List ℕ} (within : Within) (own : Registers w r rest within) (h : 4 ≤ length rest) {x : ℕ}
     (e : x ≡ registerOf rest) where

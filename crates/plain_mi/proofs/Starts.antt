@@ -10,7 +10,7 @@ use Rattle.rules.specs.declared.Within.the-variants.{BatchOnly}
 use Rattle.rules.specs.declared.Level.{Level}
 use Rattle.rules.specs.Words.{bit, allowed, inGroup}
 use Rattle.rules.specs.Windows.{fits}
-use Rattle.rules.specs.Commands.{rows, theRow, groupSize}
+use Rattle.rules.specs.Commands.{startRow, rows, theRow, groupSize}
 use Rattle.rules.specs.Uses.{usesByRow, accessOf, accessAt, addressAt}
 use Rattle.rules.specs.Masks.{masksOf, allowedOf, allowedAt, bitWrong}
 use Rattle.rules.specs.Values.{valueRules, ruleOf, valueWrong}
@@ -21,22 +21,22 @@ use Rattle.plain_mi.proofs.Tests.{tested, content, whole}
 use Rattle.plain_mi.proofs.Lengths.{exact-wrong, exact-right, exact-long, exact-past, length-says}
 
 module _ (w : Windows) (rest : List ℕ) (level : Level) where
-  pub start-field : (getD rest 0 0 % 256 ≡ 1 → ⊥) → 2048 ≡ wrongOf w 2 rest level
+  pub start-field : (getD rest 0 0 % 256 ≡ 1 → ⊥) → 2048 ≡ wrongOf w startRow rest level
   unfolding rows theRow
-  start-field n = length-says w 2 rest level (exact-wrong 2 1 refl _ n)
+  start-field n = length-says w startRow rest level (exact-wrong startRow 1 refl _ n)
 
   module _ (e : getD rest 0 0 % 256 ≡ 1) where
-    pub start-past : length rest < 3 → 2304 ≡ wrongOf w 2 rest level
+    pub start-past : length rest < 3 → 2304 ≡ wrongOf w startRow rest level
     unfolding rows theRow
-    start-past h = exact-past 2 1 refl w rest level e h
+    start-past h = exact-past startRow 1 refl w rest level e h
 
-    pub start-tested : 3 ≤ length rest → wrongOf w 2 rest level
+    pub start-tested : 3 ≤ length rest → wrongOf w startRow rest level
         ≡ cond (not (allowed (getD rest 0 0) 0x18C001FF)) 2560
         (cond (not (allowed (getD rest 1 0) 0xFFFFFFFC)) 2561
         (cond (not (allowed (getD rest 2 0) 0x0000FFFF)) 2562
-        (cond (nested 2 level) 2816
+        (cond (nested startRow level) 2816
         (cond (not (bit (getD rest 0 0) 8)) 3072
         (cond (not (fits w BatchOnly (getD rest 1 0 + 2 ^ 32 * getD rest 2 0) 4)) 3329 0)))))
     unfolding rows theRow groupSize inGroup content tested bitWrong allowedAt allowedOf masksOf
         valueRules ruleOf valueWrong usesByRow accessOf accessAt rangeWrong addressAt
-    start-tested h = whole w 2 rest level (exact-right 2 1 refl _ e) 3 (exact-long 2 1 refl _ e) h
+    start-tested h = whole w startRow rest level (exact-right startRow 1 refl _ e) 3 (exact-long startRow 1 refl _ e) h

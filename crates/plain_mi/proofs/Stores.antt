@@ -16,7 +16,7 @@ use Rattle.rules.specs.declared.Reason.the-variants.{BitNotAllowed}
 use Rattle.rules.specs.Words.{bit, allowed, inGroup}
 use Rattle.rules.specs.Refusals.{numberOf}
 use Rattle.rules.specs.Windows.{fits}
-use Rattle.rules.specs.Commands.{rows, theRow, rowOf, groupSize, lengthOf, lengthRight}
+use Rattle.rules.specs.Commands.{storeRow, rows, theRow, rowOf, groupSize, lengthOf, lengthRight}
 use Rattle.rules.specs.Uses.{usesByRow, accessOf, accessAt, addressAt}
 use Rattle.rules.specs.Masks.{masksOf, allowedOf, allowedAt, bitWrong}
 use Rattle.rules.specs.Values.{valueRules, ruleOf, valueWrong}
@@ -40,47 +40,47 @@ pub small-field : (b : Bool) {f : ℕ} → f ≡ cond b 3 2 → f < 256
 small-field true e = omega arith
 small-field false e = omega arith
 
-pub other-store : (w : Windows) (rest : List ℕ) → rowOf (getD rest 0 0) ≡ 4 → (getD rest 0 0 ≡ 0x10000002 → ⊥)
+pub other-store : (w : Windows) (rest : List ℕ) → rowOf (getD rest 0 0) ≡ storeRow → (getD rest 0 0 ≡ 0x10000002 → ⊥)
     → (getD rest 0 0 ≡ 0x10200003 → ⊥)
     → (f : ℕ) → f ≡ cond (bit (getD rest 0 0) 21) 3 2
-    → otherHeader rest f ≡ wrongOf w 4 rest First
+    → otherHeader rest f ≡ wrongOf w storeRow rest First
 unfolding rows theRow lengthRight lengthOf allowed
 other-store w rest q n m f t =
-    other w 4 rest First f (ap (eqb (getD rest 0 0 / 1 % 256)) (sym t)) refl
-    (λ e. not-between 4 rest (lit≤ tt) q
+    other w storeRow rest First f (ap (eqb (getD rest 0 0 / 1 % 256)) (sym t)) refl
+    (λ e. not-between storeRow rest (lit≤ tt) q
     (λ b low high.
-    let k = kept (getD rest 0 0) (eqb-true _ _ (not-false _ (sym (header-bits 4 rest) ∙ b))) in
+    let k = kept (getD rest 0 0) (eqb-true _ _ (not-false _ (sym (header-bits storeRow rest) ∙ b))) in
     two-headers (getD rest 0 0) (bit (getD rest 0 0) 21) refl low high k (e ∙ t) n m))
 
 -- 10 of either store, as the code asks it
-bits-of : (d : List ℕ) → firstCoded BitNotAllowed (bitWrong 4 d) 1 2 ≡ tested 10 (bitWrong 4 d) 1 2 0
+bits-of : (d : List ℕ) → firstCoded BitNotAllowed (bitWrong storeRow d) 1 2 ≡ tested 10 (bitWrong storeRow d) 1 2 0
 unfolding numberOf
-bits-of d = searched-last BitNotAllowed (bitWrong 4 d) 1 2
+bits-of d = searched-last BitNotAllowed (bitWrong storeRow d) 1 2
 
-pub store-bits : (d : List ℕ) → firstCoded BitNotAllowed (bitWrong 4 d) 1 2
+pub store-bits : (d : List ℕ) → firstCoded BitNotAllowed (bitWrong storeRow d) 1 2
     ≡ cond (not (allowed (getD d 1 0) 0xFFFFFFFC)) 2561 (cond (not (allowed (getD d 2 0) 0x0000FFFF)) 2562 0)
 unfolding tested bitWrong allowedAt allowedOf masksOf rows theRow groupSize inGroup
 store-bits d = bits-of d
 
 -- and what stands behind it: 10 decides, or it does
-module _ (d : List ℕ) {x : ℕ} (e : x ≡ firstCoded BitNotAllowed (bitWrong 4 d) 1 2) (later : ℕ) where
-  pub bits-refuse : (x ≡ 0 → ⊥) → x ≡ tested 10 (bitWrong 4 d) 1 2 later
-  bits-refuse n = e ∙ bits-of d ∙ stopped 10 (lit≤ tt) (bitWrong 4 d) 1 2 (λ z. n (e ∙ bits-of d ∙ z)) (λ z. absurd (z refl))
+module _ (d : List ℕ) {x : ℕ} (e : x ≡ firstCoded BitNotAllowed (bitWrong storeRow d) 1 2) (later : ℕ) where
+  pub bits-refuse : (x ≡ 0 → ⊥) → x ≡ tested 10 (bitWrong storeRow d) 1 2 later
+  bits-refuse n = e ∙ bits-of d ∙ stopped 10 (lit≤ tt) (bitWrong storeRow d) 1 2 (λ z. n (e ∙ bits-of d ∙ z)) (λ z. absurd (z refl))
 
-  pub bits-pass : x ≡ 0 → later ≡ tested 10 (bitWrong 4 d) 1 2 later
-  bits-pass z = sym (passed 10 (lit≤ tt) (bitWrong 4 d) 1 2 (sym (bits-of d) ∙ sym e ∙ z) .1)
+  pub bits-pass : x ≡ 0 → later ≡ tested 10 (bitWrong storeRow d) 1 2 later
+  bits-pass z = sym (passed 10 (lit≤ tt) (bitWrong storeRow d) 1 2 (sym (bits-of d) ∙ sym e ∙ z) .1)
 
 -- the two stores
 module _ (w : Windows) (rest : List ℕ) where
   pub four-bytes : getD rest 0 0 ≡ 0x10000002 → getD rest 3 0 < 2 ^ 32
-      → Own w 4 rest First 4 (tested 10 (bitWrong 4 rest) 1 2
+      → Own w storeRow rest First 4 (tested 10 (bitWrong storeRow rest) 1 2
       (cond (not (fits w ScratchOnly (getD rest 1 0 + 2 ^ 32 * getD rest 2 0) 4)) 3329 0))
   unfolding content tested bitWrong allowed allowedAt allowedOf masksOf rows theRow groupSize inGroup
       valueRules ruleOf valueWrong lengthRight lengthOf usesByRow accessOf accessAt rangeWrong addressAt
   four-bytes e third = record { right = rw e; long = rw e; same = rw (e, any-dword _ third) }
 
   pub eight-bytes : getD rest 0 0 ≡ 0x10200003 → getD rest 3 0 < 2 ^ 32 → getD rest 4 0 < 2 ^ 32
-      → Own w 4 rest First 5 (tested 10 (bitWrong 4 rest) 1 2 (cond (not (eqb (getD rest 1 0 % 8) 0)) 3073
+      → Own w storeRow rest First 5 (tested 10 (bitWrong storeRow rest) 1 2 (cond (not (eqb (getD rest 1 0 % 8) 0)) 3073
       (cond (not (fits w ScratchOnly (getD rest 1 0 + 2 ^ 32 * getD rest 2 0) 8)) 3329 0)))
   unfolding content tested bitWrong allowed allowedAt allowedOf masksOf rows theRow groupSize inGroup
       valueRules ruleOf valueWrong lengthRight lengthOf usesByRow accessOf accessAt rangeWrong addressAt

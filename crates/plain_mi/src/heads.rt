@@ -1,13 +1,19 @@
-// What all rows share: the header that is not the table's, and the address that two dwords make.
+// What rows share: the length by the field, the header that is not the table's, a range of so many bytes.
 ghost use mathlib.Core.Path.{_≡_};
+ghost use mathlib.Core.Bool.{not};
 ghost use Prim.Native.Nat.{_+_, _*_, _^_, _<_};
 ghost use lib.ListN.{length};
 ghost use Rattle.rules.specs.Words.{field};
+ghost use Rattle.rules.specs.Uses.{sized};
+ghost use Rattle.rules.specs.Addresses.{accessWrong};
 ghost use Rattle.plain_mi.specs.Plain.{otherHeader};
 use crate::numbers::BIT;
 use crate::numbers::LENGTH;
 use crate::numbers::PAST;
 use crate::numbers::at;
+use rules::Windows;
+use windows::anywhere;
+use words::dwords::address_of;
 
 // "Total length is the field in bits 7:0 plus 2".
 pub fn length_by_field(header: u32) -> usize
@@ -31,9 +37,12 @@ pub fn other_header(rest: &[u32], field: u32) -> usize
     at(BIT, 0)
 }
 
-// "An address takes two dwords".
-pub fn address_of(low: u32, high: u32) -> u64
-    ensures { λ r. ⌜ r ≡ low + 2 ^ 32 * high ⌝ }
+// "size not 0: the range in one window".
+pub fn sized_fits(w: Windows, low: u32, high: u32, size: u32) -> bool
+    ensures { λ r. ⌜ r ≡ not (accessWrong w (low + 2 ^ 32 * high) (sized size)) ⌝ }
 {
-    low as u64 + 0x1_0000_0000 * (high as u64)
+    if size == 0 {
+        return true;
+    }
+    anywhere(w, address_of(low, high), size as u64)
 }

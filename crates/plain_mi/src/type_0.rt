@@ -13,7 +13,6 @@ ghost use Rattle.rules.specs.Step.{nested};
 ghost use Rattle.plain_mi.specs.Plain.{firstCoded, wrongOf, bareOf, registerOf, coded, noWindows, cleanFrom, Groups, GroupAt};
 ghost use Rattle.rules.specs.Values.{valueWrong};
 ghost use Rattle.looks.specs.Looks.{contentOf};
-use crate::heads::address_of;
 use crate::heads::other_header;
 use crate::numbers::BIT;
 use crate::numbers::LENGTH;
@@ -28,6 +27,7 @@ use rules::Level;
 use rules::Windows;
 use windows::anywhere;
 use words::allowed;
+use words::dwords::address_of;
 use words::holds;
 
 // 0: MI_NOOP.

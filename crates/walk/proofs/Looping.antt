@@ -159,6 +159,10 @@ module _ {base : Base} {c : Capture} {old new : List ℕ} {n : ℕ} {s : Cursor}
   unfolding commandAt
   index-is e = ap (λ (k : Command). k .index) (took c s e .command)
 
+  pub level-is : {k : Command} {a : After} → stepOf c s ≡ Taken k a → levelNumber (s .level) ≡ k .level
+  unfolding commandAt
+  level-is e = ap (λ (k : Command). k .level) (sym (took c s e .command))
+
   pub full : {k : Command} {a : After} → n < budget → roomOf (length old) ≤ n → stepOf c s ≡ Taken k a
       → Ran base c old (answerWith (Fails (fullAt (s .at))) n) new
   full {a = a} h l e = rw (← index-is e) (ran (no-room a h l e))

@@ -12,7 +12,6 @@ ghost use Rattle.step.specs.Parts.{captured, Fitted, SmallBase};
 ghost use Rattle.walk.specs.Lent.{lentCapture, stopFor, Ran};
 use answers::acceptance;
 use answers::refusal;
-use fresh::fresh;
 use looks::Engine;
 use records::record_of;
 use records::write_record;
@@ -31,11 +30,12 @@ use rules::Windows;
 use rules::faults::in_batch;
 use step::step;
 use table::SURFACE_FORMATS;
+use turns::turn_at;
 
 pub mod answers;
-mod fresh;
 mod records;
 mod table;
+mod turns;
 
 // How many commands a run may have.
 const BUDGET: usize = 65536;
@@ -56,24 +56,24 @@ fn run<'a>(
     let formats = SURFACE_FORMATS;
     let room = room_in(records.len());
     let mut n: usize = 0;
-    let mut s = started(base);
+    let mut turn = turn_at(started(base));
     loop {
-        let at = s.at;
+        let s = turn.cursor;
         match step(engine, batch, state, w, s, &masks, &formats) {
-            Outcome::Refused(f) => return stopped(f, at, n),
+            Outcome::Refused(f) => return stopped(f, s.at, n),
             Outcome::Taken(command, after) => {
                 if n == room {
-                    return stopped(full(at), at, n);
+                    return stopped(full(s.at), s.at, n);
                 }
                 match after {
                     After::Ends => {
-                        write_record(&mut records[n..], record_of(command));
+                        write_record(&mut records[n..], record_of(turn.level, command));
                         return acceptance(n + 1);
                     }
                     After::To(t) => {
-                        write_record(&mut records[n..], record_of(command));
+                        write_record(&mut records[n..], record_of(turn.level, command));
                         n += 1;
-                        s = fresh(t);
+                        turn = turn_at(t);
                     }
                 }
             }

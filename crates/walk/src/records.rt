@@ -5,15 +5,12 @@ ghost use lib.ListN.{length, set};
 ghost use Rattle.rules.specs.Records.{Recordable, recordOf};
 use rules::Command;
 
-pub fn record_of(c: Command) -> u32
-    requires { ⌜ Recordable c ⌝ }
+// The record of a command. Its level is given beside it, as the loop has it at hand.
+pub fn record_of(level: usize, c: Command) -> u32
+    requires { ⌜ (Recordable c) × (level ≡ c .level) ⌝ }
     ensures { λ r. ⌜ r ≡ recordOf c ⌝ }
 {
-    let index = c.index as u32;
-    let level = c.level as u32;
-    let length = c.length as u32;
-    let row = c.row as u32;
-    index + 0x1000 * level + 0x1_0000 * length + 0x100_0000 * row
+    (c.index + 0x1000 * level + 0x1_0000 * c.length + 0x100_0000 * c.row) as u32
 }
 
 // Writes one record to the first word of what is left of the record buffer.

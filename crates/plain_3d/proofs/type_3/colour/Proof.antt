@@ -8,7 +8,7 @@ use lib.Dec.{lit≤}
 use borrow.Author.Needs.{needs}
 use Rattle.rules.specs.declared.Level.the-variants.{First}
 use Rattle.rules.specs.Words.{allowed}
-use Rattle.rules.specs.Commands.{exactly, rows, theRow}
+use Rattle.rules.specs.Commands.{colourRow, exactly, rows, theRow}
 use Rattle.rules.specs.Uses.{usesByRow, accessOf}
 use Rattle.rules.specs.Values.{valueRules, ruleOf}
 use Rattle.plain_mi.proofs.Headers.{other-exact}
@@ -18,7 +18,7 @@ use Rattle.plain_3d.proofs.BitsOnly.{dword-decides}
 use Rattle.plain_3d.proofs.type_3.colour.Statement.{statement}
 use Rattle.plain_3d.proofs.type_3.colour.Tie as tie
 
-row : theRow 15 .total ≡ exactly 0
+row : theRow colourRow .total ≡ exactly 0
 unfolding rows theRow
 row = refl
 
@@ -30,10 +30,10 @@ other-header : tie.Need-returns
 unfolding rows theRow
 other-header c =
     let start = c .before .before .before .before in
-    c .other-header .ensures ∙ other-exact _ 15 _ First 0 (lit≤ tt) row (start .pre .1) (λ e low high. c .before .if1 .taken (omega arith))
+    c .other-header .ensures ∙ other-exact _ colourRow _ First 0 (lit≤ tt) row (start .pre .1) (λ e low high. c .before .if1 .taken (omega arith))
 
 past : tie.Need-returns-2
-past c = c .at .ensures ∙ exact-past 15 0 row _ _ _ (omega arith) (c .before .if2 .taken)
+past c = c .at .ensures ∙ exact-past colourRow 0 row _ _ _ (omega arith) (c .before .if2 .taken)
 
 bit : tie.Need-returns-3
 unfolding rows theRow valueRules ruleOf usesByRow accessOf
@@ -41,7 +41,7 @@ bit c =
     let called = c .before .before in
     let whole = called .before .before in
     c .at2 .ensures
-    ∙ dword-decides 15 row refl refl 0xFFFFFFC1 refl _ _ (omega arith) (whole .if2 .left) (kept _ (whole .before .if1 .left)) true
+    ∙ dword-decides colourRow row refl refl 0xFFFFFFC1 refl _ _ (omega arith) (whole .if2 .left) (kept _ (whole .before .if1 .left)) true
     (asked (called .allowed .ensures) (c .before .if3 .taken))
 
 nothing : tie.Need-returns-4
@@ -49,7 +49,7 @@ unfolding rows theRow valueRules ruleOf usesByRow accessOf
 nothing c =
     let called = c .before in
     let whole = called .before .before in
-    dword-decides 15 row refl refl 0xFFFFFFC1 refl _ _ (omega arith) (whole .if2 .left) (kept _ (whole .before .if1 .left)) false
+    dword-decides colourRow row refl refl 0xFFFFFFC1 refl _ _ (omega arith) (whole .if2 .left) (kept _ (whole .before .if1 .left)) false
     (asked (called .allowed .ensures) (c .if3 .left))
 
 pub colour-spec : {M : Type 1} → statement M

@@ -10,7 +10,7 @@ use borrow.Author.Tests.{eq-eqb, ne-eqb}
 use Rattle.rules.specs.declared.Level.the-variants.{First}
 use Rattle.rules.specs.Words.{allowed, inGroup, firstFrom}
 use Rattle.rules.specs.Refusals.{numberOf}
-use Rattle.rules.specs.Commands.{exactly, rows, theRow, groupSize}
+use Rattle.rules.specs.Commands.{indexBufferRow, exactly, rows, theRow, groupSize}
 use Rattle.rules.specs.Uses.{addressAt, sized, usesByRow, accessOf, accessAt}
 use Rattle.rules.specs.Masks.{masksOf, allowedOf, allowedAt, bitWrong}
 use Rattle.rules.specs.Values.{valueRules, ruleOf, valueWrong}
@@ -24,7 +24,7 @@ use Rattle.plain_mi.proofs.Tests.{asked}
 use Rattle.plain_3d.proofs.type_3.index_buffer.Statement.{statement}
 use Rattle.plain_3d.proofs.type_3.index_buffer.Tie as tie
 
-row : theRow 12 .total ≡ exactly 3
+row : theRow indexBufferRow .total ≡ exactly 3
 unfolding rows theRow
 row = refl
 
@@ -32,17 +32,17 @@ other-header : tie.Need-returns
 unfolding rows theRow
 other-header c =
     let start = c .before .before .before .before in
-    c .other-header .ensures ∙ other-exact _ 12 _ First 3 (lit≤ tt) row (start .pre .1) (λ e low high. c .before .if1 .taken (omega arith))
+    c .other-header .ensures ∙ other-exact _ indexBufferRow _ First 3 (lit≤ tt) row (start .pre .1) (λ e low high. c .before .if1 .taken (omega arith))
 
 past : tie.Need-returns-2
-past c = c .at .ensures ∙ exact-past 12 3 row _ _ _ (omega arith) (c .before .if2 .taken)
+past c = c .at .ensures ∙ exact-past indexBufferRow 3 row _ _ _ (omega arith) (c .before .if2 .taken)
 
 bit-1 : tie.Need-returns-3
 unfolding coded contentOf firstFrom numberOf bitWrong allowedAt allowedOf masksOf inGroup rows theRow groupSize allowed
 bit-1 c =
     let called = c .before .before in
     let whole = called .before .before in
-    exact-says 12 3 row _ _ _ (omega arith) (whole .if2 .left)
+    exact-says indexBufferRow 3 row _ _ _ (omega arith) (whole .if2 .left)
     (rw (whole .before .if1 .left, asked (called .allowed .ensures) (c .before .if3 .taken)) (c .at2 .ensures))
 
 bit-3 : tie.Need-returns-4
@@ -53,7 +53,7 @@ bit-3 c =
     let whole = first .before .before .before in
     let start = whole .before .before .before .before in
     let second = any-dword (getD (start .args .rest .now) 2 0) (omega (arith, called .before .shared-slice-known4 .given 2)) in
-    exact-says 12 3 row _ _ _ (omega arith) (whole .if2 .left)
+    exact-says indexBufferRow 3 row _ _ _ (omega arith) (whole .if2 .left)
     (rw (
       whole .before .if1 .left,
       asked (first .before .allowed .ensures) (first .if3 .left),
@@ -72,7 +72,7 @@ value c =
     let start = whole .before .before .before .before in
     let second = any-dword (getD (start .args .rest .now) 2 0) (omega (arith, word .shared-slice-known5 .given 2)) in
     let fourth = any-dword (getD (start .args .rest .now) 4 0) (omega (arith, word .shared-slice-known5 .given 4)) in
-    exact-says 12 3 row _ _ _ (omega arith) (whole .if2 .left)
+    exact-says indexBufferRow 3 row _ _ _ (omega arith) (whole .if2 .left)
     (rw (
       whole .before .if1 .left,
       asked (first .before .allowed .ensures) (first .if3 .left),
@@ -95,7 +95,7 @@ range c =
     let second = any-dword (getD (start .args .rest .now) 2 0) (omega (arith, format .before .shared-slice-known5 .given 2)) in
     let fourth = any-dword (getD (start .args .rest .now) 4 0) (omega (arith, format .before .shared-slice-known5 .given 4)) in
     let wrong = accessWrong (start .args .w) (addressAt (start .args .rest .now) 2) (sized (getD (start .args .rest .now) 4 0)) in
-    exact-says 12 3 row _ _ _ (omega arith) (whole .if2 .left)
+    exact-says indexBufferRow 3 row _ _ _ (omega arith) (whole .if2 .left)
     (rw (
       whole .before .if1 .left,
       asked (first .before .allowed .ensures) (first .if3 .left),
@@ -119,7 +119,7 @@ nothing c =
     let second = any-dword (getD (start .args .rest .now) 2 0) (omega (arith, format .before .shared-slice-known5 .given 2)) in
     let fourth = any-dword (getD (start .args .rest .now) 4 0) (omega (arith, format .before .shared-slice-known5 .given 4)) in
     let wrong = accessWrong (start .args .w) (addressAt (start .args .rest .now) 2) (sized (getD (start .args .rest .now) 4 0)) in
-    exact-says 12 3 row _ _ _ (omega arith) (whole .if2 .left)
+    exact-says indexBufferRow 3 row _ _ _ (omega arith) (whole .if2 .left)
     (rw (
       whole .before .if1 .left,
       asked (first .before .allowed .ensures) (first .if3 .left),

@@ -12,7 +12,7 @@ use Rattle.rules.specs.declared.Level.the-variants.{First}
 use Rattle.rules.specs.Words.{allowed, some, inGroup, firstFrom}
 use Rattle.rules.specs.Refusals.{batchWindow, numberOf, refuseFound}
 use Rattle.rules.specs.Windows.{windowsWithin, fits}
-use Rattle.rules.specs.Commands.{exactly, rows, theRow, groupSize}
+use Rattle.rules.specs.Commands.{pipeRow, exactly, rows, theRow, groupSize}
 use Rattle.rules.specs.Uses.{addressAt, usesByRow, accessOf, accessAt}
 use Rattle.rules.specs.Masks.{masksOf, allowedOf, allowedAt, bitWrong}
 use Rattle.rules.specs.Values.{valueRules, ruleOf, valueWrong}
@@ -27,7 +27,7 @@ use Rattle.plain_mi.proofs.Coding.{alone}
 use Rattle.plain_3d.proofs.type_3.pipe.Statement.{statement}
 use Rattle.plain_3d.proofs.type_3.pipe.Tie as tie
 
-row : theRow 7 .total ≡ exactly 4
+row : theRow pipeRow .total ≡ exactly 4
 unfolding rows theRow
 row = refl
 
@@ -35,17 +35,17 @@ other-header : tie.Need-returns
 unfolding rows theRow
 other-header c =
     let start = c .before .before .before .before in
-    c .other-header .ensures ∙ other-exact _ 7 _ First 4 (lit≤ tt) row (start .pre .1) (λ e low high. c .before .if1 .taken (omega arith))
+    c .other-header .ensures ∙ other-exact _ pipeRow _ First 4 (lit≤ tt) row (start .pre .1) (λ e low high. c .before .if1 .taken (omega arith))
 
 past : tie.Need-returns-2
-past c = c .at .ensures ∙ exact-past 7 4 row _ _ _ (omega arith) (c .before .if2 .taken)
+past c = c .at .ensures ∙ exact-past pipeRow 4 row _ _ _ (omega arith) (c .before .if2 .taken)
 
 bit-1 : tie.Need-returns-3
 unfolding coded contentOf firstFrom numberOf bitWrong allowedAt allowedOf masksOf inGroup rows theRow groupSize allowed
 bit-1 c =
     let called = c .before .before in
     let whole = called .before .before in
-    exact-says 7 4 row _ _ _ (omega arith) (whole .if2 .left)
+    exact-says pipeRow 4 row _ _ _ (omega arith) (whole .if2 .left)
     (rw (whole .before .if1 .left, asked (called .allowed .ensures) (c .before .if3 .taken)) (c .at2 .ensures))
 
 bit-2 : tie.Need-returns-4
@@ -54,7 +54,7 @@ bit-2 c =
     let called = c .before .before in
     let first = called .before .before in
     let whole = first .before .before .before in
-    exact-says 7 4 row _ _ _ (omega arith) (whole .if2 .left)
+    exact-says pipeRow 4 row _ _ _ (omega arith) (whole .if2 .left)
     (rw (
       whole .before .if1 .left,
       asked (first .before .allowed .ensures) (first .if3 .left),
@@ -68,7 +68,7 @@ bit-3 c =
     let second = called .before .before in
     let first = second .before .before .before in
     let whole = first .before .before .before in
-    exact-says 7 4 row _ _ _ (omega arith) (whole .if2 .left)
+    exact-says pipeRow 4 row _ _ _ (omega arith) (whole .if2 .left)
     (rw (
       whole .before .if1 .left,
       asked (first .before .allowed .ensures) (first .if3 .left),
@@ -88,8 +88,8 @@ unsynced c =
     let start = whole .before .before .before .before in
     let fourth = any-dword (getD (start .args .rest .now) 4 0) (omega (arith, whole .before .before .before .shared-slice-known .given 4)) in
     let fifth = any-dword (getD (start .args .rest .now) 5 0) (omega (arith, whole .before .before .before .shared-slice-known .given 5)) in
-    let values = refuseFound ValueBroken batchWindow 0 (firstFrom (valueWrong 7 (start .args .rest .now)) 0 6) in
-    exact-says 7 4 row _ _ _ (omega arith) (whole .if2 .left)
+    let values = refuseFound ValueBroken batchWindow 0 (firstFrom (valueWrong pipeRow (start .args .rest .now)) 0 6) in
+    exact-says pipeRow 4 row _ _ _ (omega arith) (whole .if2 .left)
     (rw (
       whole .before .if1 .left,
       asked (first .before .allowed .ensures) (first .if3 .left),
@@ -113,7 +113,7 @@ unaligned c =
     let start = whole .before .before .before .before in
     let fourth = any-dword (getD (start .args .rest .now) 4 0) (omega (arith, whole .before .before .before .shared-slice-known .given 4)) in
     let fifth = any-dword (getD (start .args .rest .now) 5 0) (omega (arith, whole .before .before .before .shared-slice-known .given 5)) in
-    exact-says 7 4 row _ _ _ (omega arith) (whole .if2 .left)
+    exact-says pipeRow 4 row _ _ _ (omega arith) (whole .if2 .left)
     (rw (
       whole .before .if1 .left,
       asked (first .before .allowed .ensures) (first .if3 .left),
@@ -139,7 +139,7 @@ outside c =
     let start = whole .before .before .before .before in
     let fourth = any-dword (getD (start .args .rest .now) 4 0) (omega (arith, whole .before .before .before .shared-slice-known .given 4)) in
     let fifth = any-dword (getD (start .args .rest .now) 5 0) (omega (arith, whole .before .before .before .shared-slice-known .given 5)) in
-    exact-says 7 4 row _ _ _ (omega arith) (whole .if2 .left)
+    exact-says pipeRow 4 row _ _ _ (omega arith) (whole .if2 .left)
     (rw (
       whole .before .if1 .left,
       asked (first .before .allowed .ensures) (first .if3 .left),
@@ -168,7 +168,7 @@ nothing c =
     let start = whole .before .before .before .before in
     let fourth = any-dword (getD (start .args .rest .now) 4 0) (omega (arith, whole .before .before .before .shared-slice-known .given 4)) in
     let fifth = any-dword (getD (start .args .rest .now) 5 0) (omega (arith, whole .before .before .before .shared-slice-known .given 5)) in
-    exact-says 7 4 row _ _ _ (omega arith) (whole .if2 .left)
+    exact-says pipeRow 4 row _ _ _ (omega arith) (whole .if2 .left)
     (rw (
       whole .before .if1 .left,
       asked (first .before .allowed .ensures) (first .if3 .left),

@@ -12,7 +12,7 @@ use Rattle.rules.specs.declared.Reason.the-variants.{ValueBroken}
 use Rattle.rules.specs.declared.Level.the-variants.{First}
 use Rattle.rules.specs.Words.{cleared, allowed, inGroup, firstFrom}
 use Rattle.rules.specs.Refusals.{batchWindow, numberOf, refuseFound}
-use Rattle.rules.specs.Commands.{exactly, rows, theRow, groupSize}
+use Rattle.rules.specs.Commands.{primitiveRow, exactly, rows, theRow, groupSize}
 use Rattle.rules.specs.Uses.{addressAt, usesByRow, accessOf, accessAt}
 use Rattle.rules.specs.Masks.{masksOf, allowedOf, allowedAt, bitWrong}
 use Rattle.rules.specs.Values.{valueRules, ruleOf, valueWrong}
@@ -28,7 +28,7 @@ use Rattle.plain_mi.proofs.Coding.{alone}
 use Rattle.plain_3d.proofs.type_3.primitive.Statement.{statement}
 use Rattle.plain_3d.proofs.type_3.primitive.Tie as tie
 
-row : theRow 16 .total ≡ exactly 5
+row : theRow primitiveRow .total ≡ exactly 5
 unfolding rows theRow
 row = refl
 
@@ -46,14 +46,14 @@ other-header : tie.Need-returns
 unfolding rows theRow
 other-header c =
     let start = c .before .before .before .before in
-    c .other-header .ensures ∙ other-exact _ 16 _ First 5 (lit≤ tt) row (start .pre .1) (λ e low high. c .before .if1 .taken (omega arith))
+    c .other-header .ensures ∙ other-exact _ primitiveRow _ First 5 (lit≤ tt) row (start .pre .1) (λ e low high. c .before .if1 .taken (omega arith))
 
 -- the field of such a header
 field-5 : (h : ℕ) → h - h / 256 % 8 * 256 ≡ 0x7B000005 → h % 256 ≡ 5
 field-5 h e = omega arith
 
 past : tie.Need-returns-2
-past c = c .at .ensures ∙ exact-past 16 5 row _ _ _ (field-5 _ (c .before .before .if1 .left)) (c .before .if2 .taken)
+past c = c .at .ensures ∙ exact-past primitiveRow 5 row _ _ _ (field-5 _ (c .before .before .if1 .left)) (c .before .if2 .taken)
 
 bit : tie.Need-returns-3
 unfolding coded contentOf firstFrom numberOf bitWrong allowedAt allowedOf masksOf inGroup rows theRow groupSize
@@ -61,7 +61,7 @@ bit c =
     let called = c .before .before in
     let whole = called .before .before in
     let header = whole .before .if1 .left in
-    exact-says 16 5 row _ _ _ (field-5 _ header) (whole .if2 .left)
+    exact-says primitiveRow 5 row _ _ _ (field-5 _ header) (whole .if2 .left)
     (rw (header-kept _ header, asked (called .allowed .ensures) (c .before .if3 .taken)) (c .at2 .ensures))
 
 by-end : tie.Need-returns-4
@@ -74,8 +74,8 @@ by-end c =
     let start = whole .before .before .before .before in
     let rest = start .args .rest .now in
     let known = whole .before .before .before .shared-slice-known in
-    let values = refuseFound ValueBroken batchWindow 0 (firstFrom (valueWrong 16 rest) 0 7) in
-    exact-says 16 5 row _ _ _ (field-5 _ header) (whole .if2 .left)
+    let values = refuseFound ValueBroken batchWindow 0 (firstFrom (valueWrong primitiveRow rest) 0 7) in
+    exact-says primitiveRow 5 row _ _ _ (field-5 _ header) (whole .if2 .left)
     (rw (
       header-kept _ header,
       asked (masked .before .allowed .ensures) (masked .if3 .left),
@@ -96,7 +96,7 @@ nothing c =
     let start = whole .before .before .before .before in
     let rest = start .args .rest .now in
     let known = whole .before .before .before .shared-slice-known in
-    exact-says 16 5 row _ _ _ (field-5 _ header) (whole .if2 .left)
+    exact-says primitiveRow 5 row _ _ _ (field-5 _ header) (whole .if2 .left)
     (rw (
       header-kept _ header,
       asked (masked .before .allowed .ensures) (masked .if3 .left),

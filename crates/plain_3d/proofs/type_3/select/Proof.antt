@@ -5,7 +5,7 @@ use lib.Dec.{lit≤}
 use borrow.Author.Needs.{needs}
 use Rattle.rules.specs.declared.Level.the-variants.{First}
 use Rattle.rules.specs.Words.{allowed}
-use Rattle.rules.specs.Commands.{rows, theRow}
+use Rattle.rules.specs.Commands.{selectRow, rows, theRow}
 use Rattle.rules.specs.Uses.{usesByRow, accessOf}
 use Rattle.rules.specs.Values.{valueRules, ruleOf}
 use Rattle.plain_mi.specs.Plain.{noWindows}
@@ -17,13 +17,13 @@ wrong-bit : tie.Need-returns
 unfolding rows theRow usesByRow accessOf valueRules ruleOf
 wrong-bit c =
     rw (
-      one-dword noWindows 8 _ First refl refl refl refl (lit≤ tt),
-      other-key 8 _ (lit≤ tt) refl refl (c .before .before .pre) (c .before .if1 .taken),
+      one-dword noWindows selectRow _ First refl refl refl refl (lit≤ tt),
+      other-key selectRow _ (lit≤ tt) refl refl (c .before .before .pre) (c .before .if1 .taken),
     ) (c .at .ensures)
 
 nothing : tie.Need-returns-2
 unfolding rows theRow usesByRow accessOf valueRules ruleOf allowed
-nothing c = rw (one-dword noWindows 8 _ First refl refl refl refl (lit≤ tt), header-bits 8 _, c .if1 .left)
+nothing c = rw (one-dword noWindows selectRow _ First refl refl refl refl (lit≤ tt), header-bits selectRow _, c .if1 .left)
 
 pub select-spec : {M : Type 1} → statement M
 select-spec = tie.close (tie.spec (λ c κs. search needs) wrong-bit nothing)

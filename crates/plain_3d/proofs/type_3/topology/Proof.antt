@@ -7,7 +7,7 @@ use borrow.Author.Needs.{needs}
 use Rattle.rules.specs.declared.Level.the-variants.{First}
 use Rattle.rules.specs.Words.{allowed, inGroup, firstFrom}
 use Rattle.rules.specs.Refusals.{numberOf}
-use Rattle.rules.specs.Commands.{exactly, rows, theRow, groupSize}
+use Rattle.rules.specs.Commands.{topologyRow, exactly, rows, theRow, groupSize}
 use Rattle.rules.specs.Uses.{usesByRow, accessOf, accessAt}
 use Rattle.rules.specs.Masks.{masksOf, allowedOf, allowedAt, bitWrong}
 use Rattle.rules.specs.Values.{valueRules, ruleOf, valueWrong}
@@ -20,7 +20,7 @@ use Rattle.plain_mi.proofs.Tests.{asked}
 use Rattle.plain_3d.proofs.type_3.topology.Statement.{statement}
 use Rattle.plain_3d.proofs.type_3.topology.Tie as tie
 
-row : theRow 13 .total ≡ exactly 0
+row : theRow topologyRow .total ≡ exactly 0
 unfolding rows theRow
 row = refl
 
@@ -28,19 +28,19 @@ other-header : tie.Need-returns
 unfolding rows theRow
 other-header c =
     let start = c .before .before .before .before in
-    c .other-header .ensures ∙ other-exact _ 13 _ First 0 (lit≤ tt) row (start .pre .1) (λ e low high. c .before .if1 .taken (omega arith))
+    c .other-header .ensures ∙ other-exact _ topologyRow _ First 0 (lit≤ tt) row (start .pre .1) (λ e low high. c .before .if1 .taken (omega arith))
 
 past : tie.Need-returns-2
 past c =
     let short = c .before in
-    c .at .ensures ∙ exact-past 13 0 row _ _ _ (omega arith) (short .if2 .taken)
+    c .at .ensures ∙ exact-past topologyRow 0 row _ _ _ (omega arith) (short .if2 .taken)
 
 bit : tie.Need-returns-3
 unfolding coded contentOf firstFrom numberOf bitWrong allowedAt allowedOf masksOf inGroup rows theRow groupSize allowed
 bit c =
     let called = c .before .before in
     let whole = called .before .before in
-    exact-says 13 0 row _ _ _ (omega arith) (whole .if2 .left)
+    exact-says topologyRow 0 row _ _ _ (omega arith) (whole .if2 .left)
     (rw (whole .before .if1 .left, asked (called .allowed .ensures) (c .before .if3 .taken)) (c .at2 .ensures))
 
 value : tie.Need-returns-4
@@ -51,7 +51,7 @@ value c =
     let masked = known .before .before in
     let called = masked .before in
     let whole = called .before .before in
-    exact-says 13 0 row _ _ _ (omega arith) (whole .if2 .left)
+    exact-says topologyRow 0 row _ _ _ (omega arith) (whole .if2 .left)
     (rw (
       whole .before .if1 .left,
       asked (called .allowed .ensures) (masked .if3 .left),
@@ -66,7 +66,7 @@ nothing c =
     let masked = known .before .before in
     let called = masked .before in
     let whole = called .before .before in
-    exact-says 13 0 row _ _ _ (omega arith) (whole .if2 .left)
+    exact-says topologyRow 0 row _ _ _ (omega arith) (whole .if2 .left)
     (rw (
       whole .before .if1 .left,
       asked (called .allowed .ensures) (masked .if3 .left),

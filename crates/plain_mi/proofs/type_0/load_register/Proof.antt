@@ -7,7 +7,7 @@ use lib.Dec.{lit≤}
 use borrow.Author.Needs.{needs}
 use Rattle.rules.specs.declared.Within.the-variants.{AnyWindow}
 use Rattle.rules.specs.declared.Level.the-variants.{First}
-use Rattle.rules.specs.Commands.{rows, theRow}
+use Rattle.rules.specs.Commands.{loadRegisterRow, rows, theRow}
 use Rattle.plain_mi.proofs.Tests.{own-past}
 use Rattle.plain_mi.proofs.Headers.{other-exact}
 use Rattle.plain_mi.proofs.Fitting.{any-fits}
@@ -19,7 +19,7 @@ other-header : tie.Need-returns
 unfolding rows theRow
 other-header c =
     let start = c .before .before .before .before in
-    c .other-header .ensures ∙ other-exact _ 6 _ First 2 (lit≤ tt) refl (start .pre .1) (λ e low high. c .before .if1 .taken (omega arith))
+    c .other-header .ensures ∙ other-exact _ loadRegisterRow _ First 2 (lit≤ tt) refl (start .pre .1) (λ e low high. c .before .if1 .taken (omega arith))
 
 too-long : tie.Need-returns-2
 too-long c = c .at .ensures ∙ own-past (loads _ _ (c .before .before .if1 .left)) (c .before .if2 .taken)

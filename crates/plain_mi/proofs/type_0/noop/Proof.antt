@@ -4,7 +4,7 @@ use mathlib.Core.Path.{refl}
 use lib.Dec.{lit≤}
 use borrow.Author.Needs.{needs}
 use Rattle.rules.specs.declared.Level.the-variants.{First}
-use Rattle.rules.specs.Commands.{rows, theRow}
+use Rattle.rules.specs.Commands.{noopRow, rows, theRow}
 use Rattle.rules.specs.Uses.{usesByRow, accessOf}
 use Rattle.rules.specs.Values.{valueRules, ruleOf}
 use Rattle.plain_mi.specs.Plain.{noWindows}
@@ -17,8 +17,8 @@ unfolding rows theRow usesByRow accessOf valueRules ruleOf
 wrong-bit c =
     let kept = c .before .before in
     rw (
-      one-dword noWindows 0 _ First refl refl refl refl (lit≤ tt),
-      header-bits 0 _,
+      one-dword noWindows noopRow _ First refl refl refl refl (lit≤ tt),
+      header-bits noopRow _,
       ← kept .allowed .ensures,
       c .before .if1 .taken,
     ) (c .at .ensures)
@@ -27,7 +27,7 @@ nothing : tie.Need-returns-2
 unfolding rows theRow usesByRow accessOf valueRules ruleOf
 nothing c =
     let kept = c .before in
-    rw (one-dword noWindows 0 _ First refl refl refl refl (lit≤ tt), header-bits 0 _, ← kept .allowed .ensures, c .if1 .left)
+    rw (one-dword noWindows noopRow _ First refl refl refl refl (lit≤ tt), header-bits noopRow _, ← kept .allowed .ensures, c .if1 .left)
 
 pub noop-spec : {M : Type 1} → statement M
 noop-spec = tie.close (tie.spec (λ c κs. search needs) (λ c κs. search needs) wrong-bit nothing)

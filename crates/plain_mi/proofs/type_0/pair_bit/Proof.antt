@@ -4,17 +4,13 @@ use borrow.Author.Needs.{needs}
 use native.Mathlib.Omega.{arith}
 use mathlib.Core.Path.{refl, sym, _∙_}
 use Prim.Native.Nat.{_+_}
-use Rattle.rules.specs.Commands.{rows, theRow, groupSize}
+use Rattle.rules.specs.Commands.{setRegistersRow, rows, theRow, groupSize}
 use Rattle.rules.specs.Masks.{masksOf}
 use Rattle.rules.specs.Refusals.{numberOf}
 use Rattle.plain_mi.proofs.Coding.{is-first, not-first, none-left}
 use Rattle.plain_mi.proofs.Dwords.{spot-in, bit-at, free-at}
 use Rattle.plain_mi.proofs.type_0.pair_bit.Statement.{statement}
 use Rattle.plain_mi.proofs.type_0.pair_bit.Tie as tie
-use Rattle.plain_mi.proofs.type_0.pair_bit.Reads as reads
-use Rattle.plain_mi.proofs.type_0.pair_bit.Lts as lts
-use Rattle.plain_mi.proofs.numbers.at.Reads as at-reads
-use Rattle.words.proofs.allowed.Reads as allowed-reads
 
 found : tie.Need-returns
 unfolding rows theRow groupSize masksOf numberOf
@@ -25,7 +21,7 @@ found c =
     c .at .ensures
     ∙ sym
     (is-first _ _ k 1
-    (bit-at 3 _ _ 1 (spot-in 2 k 0 (start .pre .0) (start .pre .2) (omega arith) (omega arith)) refl (test .allowed .ensures)
+    (bit-at setRegistersRow _ _ 1 (spot-in 2 k 0 (start .pre .0) (start .pre .2) (omega arith) (omega arith)) refl (test .allowed .ensures)
     ∙ c .before .if1 .taken))
 
 none : tie.Need-returns-2
@@ -36,10 +32,10 @@ none c =
     let k = start .args .k in
     sym
     (not-first _ _ k 1
-    (bit-at 3 _ _ 1 (spot-in 2 k 0 (start .pre .0) (start .pre .2) (omega arith) (omega arith))
+    (bit-at setRegistersRow _ _ 1 (spot-in 2 k 0 (start .pre .0) (start .pre .2) (omega arith) (omega arith))
     refl (test .allowed .ensures) ∙ c .if1 .left)
     ∙ not-first _ _ (k + 1) 0
-    (free-at 3 _ _ 2 (spot-in 2 k 1 (start .pre .0) (start .pre .2) (omega arith) refl) refl
+    (free-at setRegistersRow _ _ 2 (spot-in 2 k 1 (start .pre .0) (start .pre .2) (omega arith) refl) refl
     (test .before .shared-slice-known2 .given (k + 1) .fits))
     ∙ none-left _ _ (k + 1 + 1))
 

@@ -5,7 +5,7 @@ use Prim.Native.Nat.{_+_}
 use native.Mathlib.Omega.{arith}
 use mathlib.Core.Path.{refl, sym, ap, _∙_}
 use mathlib.Core.Bool.{not}
-use Rattle.rules.specs.Commands.{rows, theRow, groupSize}
+use Rattle.rules.specs.Commands.{setRegistersRow, rows, theRow, groupSize}
 use Rattle.rules.specs.Refusals.{numberOf}
 use Rattle.rules.specs.Values.{valueRules, ruleOf}
 use Rattle.plain_mi.proofs.Coding.{is-first, not-first, none-left}
@@ -22,7 +22,7 @@ found c =
     c .at .ensures
     ∙ sym
     (is-first _ _ k 1
-    (value-at 3 _ _ 1 (spot-in 2 k 0 (start .pre .0) (start .pre .2) (omega arith) (omega arith))
+    (value-at setRegistersRow _ _ 1 (spot-in 2 k 0 (start .pre .0) (start .pre .2) (omega arith) (omega arith))
     ∙ ap not (sym (test .known-register .ensures))
     ∙ c .before .if1 .taken))
 
@@ -34,10 +34,10 @@ none c =
     let k = start .args .k in
     sym
     (not-first _ _ k 1
-    (value-at 3 _ _ 1 (spot-in 2 k 0 (start .pre .0) (start .pre .2) (omega arith) (omega arith))
+    (value-at setRegistersRow _ _ 1 (spot-in 2 k 0 (start .pre .0) (start .pre .2) (omega arith) (omega arith))
     ∙ ap not (sym (test .known-register .ensures))
     ∙ c .if1 .left)
-    ∙ not-first _ _ (k + 1) 0 (value-at 3 _ _ 2 (spot-in 2 k 1 (start .pre .0) (start .pre .2) (omega arith) refl))
+    ∙ not-first _ _ (k + 1) 0 (value-at setRegistersRow _ _ 2 (spot-in 2 k 1 (start .pre .0) (start .pre .2) (omega arith) refl))
     ∙ none-left _ _ (k + 1 + 1))
 
 pub pair-value-spec : {M : Type 1} → statement M

@@ -7,6 +7,7 @@ use mathlib.Core.Bool.{false}
 use mathlib.Core.List.{List}
 use lib.ListN.{length}
 use Rattle.rules.specs.declared.Level.the-variants.{First}
+use Rattle.rules.specs.Commands.{setRegistersRow}
 use Rattle.rules.specs.Words.{inGroup}
 use Rattle.rules.specs.Masks.{bitWrong}
 use Rattle.rules.specs.Uses.{usesByRow, accessOf, accessAt}
@@ -18,7 +19,7 @@ use Rattle.plain_mi.proofs.Content.{HeaderRight, bit-says, value-decide
 use Rattle.plain_mi.proofs.type_0.pairs.Statement.{statement}
 use Rattle.plain_mi.proofs.type_0.pairs.Tie as tie
 
-header : (d : List ℕ) → 0 < length d → bitWrong 3 d 0 ≡ false → HeaderRight noWindows 3 d First
+header : (d : List ℕ) → 0 < length d → bitWrong setRegistersRow d 0 ≡ false → HeaderRight noWindows setRegistersRow d First
 unfolding inGroup valueRules ruleOf valueWrong usesByRow accessOf accessAt rangeWrong
 header d l e = record { some = l; bits = e; value = refl; range = refl; quiet = refl }
 
@@ -42,7 +43,7 @@ value c =
     c .pair-values .ensures
     ∙ sym
     (value-decides (header _ (start .pre .0 .0) (start .pre .1)) (sym (bits .pair-bits .ensures) ∙ c .before .if2 .left)
-    (no-ranges noWindows 3 _ refl _ _))
+    (no-ranges noWindows setRegistersRow _ refl _ _))
 
 pub pairs-spec : {M : Type 1} → statement M
 pairs-spec =

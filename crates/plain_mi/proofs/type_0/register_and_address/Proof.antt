@@ -11,48 +11,48 @@ bit-1 c = rw (register-tested _, asked (c .before .before .allowed .ensures) (c 
 
 bit-2 : tie.Need-returns-2
 bit-2 c =
-    let one = c .before .before .before .before in
+    let first-kept = c .before .before .before .before in
     rw (
       register-tested _,
-      asked (one .before .allowed .ensures) (one .if1 .left),
+      asked (first-kept .before .allowed .ensures) (first-kept .if1 .left),
       asked (c .before .before .allowed2 .ensures) (c .before .if2 .taken),
     ) (c .at2 .ensures)
 
 bit-3 : tie.Need-returns-3
 bit-3 c =
-    let two = c .before .before .before .before in
-    let one = two .before .before .before in
+    let second-kept = c .before .before .before .before in
+    let first-kept = second-kept .before .before .before in
     rw (
       register-tested _,
-      asked (one .before .allowed .ensures) (one .if1 .left),
-      asked (two .before .allowed2 .ensures) (two .if2 .left),
+      asked (first-kept .before .allowed .ensures) (first-kept .if1 .left),
+      asked (second-kept .before .allowed2 .ensures) (second-kept .if2 .left),
       asked (c .before .before .allowed3 .ensures) (c .before .if3 .taken),
     ) (c .at3 .ensures)
 
 value : tie.Need-returns-4
 value c =
-    let three = c .before .before .before .before in
-    let two = three .before .before .before in
-    let one = two .before .before .before in
+    let third-kept = c .before .before .before .before in
+    let second-kept = third-kept .before .before .before in
+    let first-kept = second-kept .before .before .before in
     rw (
       register-tested _,
-      asked (one .before .allowed .ensures) (one .if1 .left),
-      asked (two .before .allowed2 .ensures) (two .if2 .left),
-      asked (three .before .allowed3 .ensures) (three .if3 .left),
+      asked (first-kept .before .allowed .ensures) (first-kept .if1 .left),
+      asked (second-kept .before .allowed2 .ensures) (second-kept .if2 .left),
+      asked (third-kept .before .allowed3 .ensures) (third-kept .if3 .left),
       asked (c .before .before .known-register .ensures) (c .before .if4 .taken),
     )
     (c .at4 .ensures)
 
 nothing : tie.Need-returns-5
 nothing c =
-    let three = c .before .before .before in
-    let two = three .before .before .before in
-    let one = two .before .before .before in
+    let third-kept = c .before .before .before in
+    let second-kept = third-kept .before .before .before in
+    let first-kept = second-kept .before .before .before in
     rw (
       register-tested _,
-      asked (one .before .allowed .ensures) (one .if1 .left),
-      asked (two .before .allowed2 .ensures) (two .if2 .left),
-      asked (three .before .allowed3 .ensures) (three .if3 .left),
+      asked (first-kept .before .allowed .ensures) (first-kept .if1 .left),
+      asked (second-kept .before .allowed2 .ensures) (second-kept .if2 .left),
+      asked (third-kept .before .allowed3 .ensures) (third-kept .if3 .left),
       asked (c .before .known-register .ensures) (c .if4 .left),
     )
 

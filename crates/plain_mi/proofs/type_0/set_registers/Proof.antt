@@ -5,14 +5,14 @@ use Prim.Native.Nat.{ℕ, _%_, _≤_}
 use native.Mathlib.Omega.{arith}
 use mathlib.Core.Path.{_≡_, refl, sym, _∙_}
 use Rattle.rules.specs.declared.Level.the-variants.{First}
-use Rattle.rules.specs.Commands.{rows, theRow, groupSize}
+use Rattle.rules.specs.Commands.{setRegistersRow, rows, theRow, groupSize}
 use Rattle.rules.specs.Masks.{masksOf}
 use Rattle.plain_mi.specs.Plain.{noWindows}
 use Rattle.plain_mi.proofs.OfGroups.{GroupRow, FieldRight, says-length, says-past, own-length, says-content, own-groups, header-kept, says-header}
 use Rattle.plain_mi.proofs.type_0.set_registers.Statement.{statement}
 use Rattle.plain_mi.proofs.type_0.set_registers.Tie as tie
 
-of-pairs : GroupRow 3 2 64 0x110000
+of-pairs : GroupRow setRegistersRow 2 64 0x110000
 unfolding rows theRow groupSize masksOf
 of-pairs = record { total = refl; of-size = refl; key = refl; mask = refl; known = omega arith }
 

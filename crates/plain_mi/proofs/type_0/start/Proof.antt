@@ -25,52 +25,52 @@ bit-0 c =
 
 bit-1 : tie.Need-returns-4
 bit-1 c =
-    let zero = c .before .before .before .before in
-    let inside = zero .before .before in
+    let header-kept = c .before .before .before .before in
+    let inside = header-kept .before .before in
     rw (
       start-tested _ _ _ (inside .before .if1 .left) (inside .if2 .left),
-      asked (zero .before .allowed .ensures) (zero .if3 .left),
+      asked (header-kept .before .allowed .ensures) (header-kept .if3 .left),
       asked (c .before .before .allowed2 .ensures) (c .before .if4 .taken),
     ) (c .at4 .ensures)
 
 bit-2 : tie.Need-returns-5
 bit-2 c =
-    let one = c .before .before .before .before in
-    let zero = one .before .before .before in
-    let inside = zero .before .before in
+    let first-kept = c .before .before .before .before in
+    let header-kept = first-kept .before .before .before in
+    let inside = header-kept .before .before in
     rw (
       start-tested _ _ _ (inside .before .if1 .left) (inside .if2 .left),
-      asked (zero .before .allowed .ensures) (zero .if3 .left),
-      asked (one .before .allowed2 .ensures) (one .if4 .left),
+      asked (header-kept .before .allowed .ensures) (header-kept .if3 .left),
+      asked (first-kept .before .allowed2 .ensures) (first-kept .if4 .left),
       asked (c .before .before .allowed3 .ensures) (c .before .if5 .taken),
     ) (c .at5 .ensures)
 
 nested-start : tie.Need-returns-6
 nested-start c =
-    let two = c .before .before .before in
-    let one = two .before .before .before in
-    let zero = one .before .before .before in
-    let inside = zero .before .before in
+    let second-kept = c .before .before .before in
+    let first-kept = second-kept .before .before .before in
+    let header-kept = first-kept .before .before .before in
+    let inside = header-kept .before .before in
     rw (
       start-tested _ _ _ (inside .before .if1 .left) (inside .if2 .left),
-      asked (zero .before .allowed .ensures) (zero .if3 .left),
-      asked (one .before .allowed2 .ensures) (one .if4 .left),
-      asked (two .before .allowed3 .ensures) (two .if5 .left),
+      asked (header-kept .before .allowed .ensures) (header-kept .if3 .left),
+      asked (first-kept .before .allowed2 .ensures) (first-kept .if4 .left),
+      asked (second-kept .before .allowed3 .ensures) (second-kept .if5 .left),
       sym (c .before .before .is-nested .ensures) ∙ c .before .if6 .taken,
     ) (c .at6 .ensures)
 
 value : tie.Need-returns-7
 value c =
     let outer = c .before .before in
-    let two = outer .before .before in
-    let one = two .before .before .before in
-    let zero = one .before .before .before in
-    let inside = zero .before .before in
+    let second-kept = outer .before .before in
+    let first-kept = second-kept .before .before .before in
+    let header-kept = first-kept .before .before .before in
+    let inside = header-kept .before .before in
     rw (
       start-tested _ _ _ (inside .before .if1 .left) (inside .if2 .left),
-      asked (zero .before .allowed .ensures) (zero .if3 .left),
-      asked (one .before .allowed2 .ensures) (one .if4 .left),
-      asked (two .before .allowed3 .ensures) (two .if5 .left),
+      asked (header-kept .before .allowed .ensures) (header-kept .if3 .left),
+      asked (first-kept .before .allowed2 .ensures) (first-kept .if4 .left),
+      asked (second-kept .before .allowed3 .ensures) (second-kept .if5 .left),
       sym (outer .before .is-nested .ensures) ∙ outer .if6 .left,
       ne-eqb _ _ (c .before .if7 .taken),
     ) (c .at7 .ensures)
@@ -80,20 +80,20 @@ outside c =
     let fit = c .before .before in
     let set = fit .before .before .before .before in
     let outer = set .before in
-    let two = outer .before .before in
-    let one = two .before .before .before in
-    let zero = one .before .before .before in
-    let inside = zero .before .before in
+    let second-kept = outer .before .before in
+    let first-kept = second-kept .before .before .before in
+    let header-kept = first-kept .before .before .before in
+    let inside = header-kept .before .before in
     let start = inside .before .before .before .before in
-    let held = batch-holds (start .args .w) 4 (fit .before .address-of .ensures) (fit .holds .ensures) in
+    let fitting = batch-holds (start .args .w) 4 (fit .before .address-of .ensures) (fit .holds .ensures) in
     rw (
       start-tested _ _ _ (inside .before .if1 .left) (inside .if2 .left),
-      asked (zero .before .allowed .ensures) (zero .if3 .left),
-      asked (one .before .allowed2 .ensures) (one .if4 .left),
-      asked (two .before .allowed3 .ensures) (two .if5 .left),
+      asked (header-kept .before .allowed .ensures) (header-kept .if3 .left),
+      asked (first-kept .before .allowed2 .ensures) (first-kept .if4 .left),
+      asked (second-kept .before .allowed3 .ensures) (second-kept .if5 .left),
       sym (outer .before .is-nested .ensures) ∙ outer .if6 .left,
       eq-eqb _ _ (set .if7 .left),
-      asked held (c .before .if8 .taken),
+      asked fitting (c .before .if8 .taken),
     ) (c .at8 .ensures)
 
 nothing : tie.Need-returns-9
@@ -101,20 +101,20 @@ nothing c =
     let fit = c .before in
     let set = fit .before .before .before .before in
     let outer = set .before in
-    let two = outer .before .before in
-    let one = two .before .before .before in
-    let zero = one .before .before .before in
-    let inside = zero .before .before in
+    let second-kept = outer .before .before in
+    let first-kept = second-kept .before .before .before in
+    let header-kept = first-kept .before .before .before in
+    let inside = header-kept .before .before in
     let start = inside .before .before .before .before in
-    let held = batch-holds (start .args .w) 4 (fit .before .address-of .ensures) (fit .holds .ensures) in
+    let fitting = batch-holds (start .args .w) 4 (fit .before .address-of .ensures) (fit .holds .ensures) in
     rw (
       start-tested _ _ _ (inside .before .if1 .left) (inside .if2 .left),
-      asked (zero .before .allowed .ensures) (zero .if3 .left),
-      asked (one .before .allowed2 .ensures) (one .if4 .left),
-      asked (two .before .allowed3 .ensures) (two .if5 .left),
+      asked (header-kept .before .allowed .ensures) (header-kept .if3 .left),
+      asked (first-kept .before .allowed2 .ensures) (first-kept .if4 .left),
+      asked (second-kept .before .allowed3 .ensures) (second-kept .if5 .left),
       sym (outer .before .is-nested .ensures) ∙ outer .if6 .left,
       eq-eqb _ _ (set .if7 .left),
-      asked held (c .if8 .left),
+      asked fitting (c .if8 .left),
     )
 
 pub start-spec : {M : Type 1} → statement M

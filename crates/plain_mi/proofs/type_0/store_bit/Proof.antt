@@ -11,17 +11,17 @@ bit-1 c = rw (store-bits _, asked (c .before .before .allowed .ensures) (c .befo
 
 bit-2 : tie.Need-returns-2
 bit-2 c =
-    let one = c .before .before .before .before in
+    let first-kept = c .before .before .before .before in
     rw (
       store-bits _,
-      asked (one .before .allowed .ensures) (one .if1 .left),
+      asked (first-kept .before .allowed .ensures) (first-kept .if1 .left),
       asked (c .before .before .allowed2 .ensures) (c .before .if2 .taken),
     ) (c .at2 .ensures)
 
 nothing : tie.Need-returns-3
 nothing c =
-    let one = c .before .before .before in
-    rw (store-bits _, asked (one .before .allowed .ensures) (one .if1 .left), asked (c .before .allowed2 .ensures) (c .if2 .left))
+    let first-kept = c .before .before .before in
+    rw (store-bits _, asked (first-kept .before .allowed .ensures) (first-kept .if1 .left), asked (c .before .allowed2 .ensures) (c .if2 .left))
 
 pub store-bit-spec : {M : Type 1} → statement M
 store-bit-spec =

@@ -52,9 +52,9 @@ outside c =
     let start = known .before in
     let own = eight-bytes (start .args .w) (start .args .rest .now) (start .pre .1) (known .shared-slice-known .given 3 .fits)
     (known .shared-slice-known .given 4 .fits) in
-    let held = scratch-holds (start .args .w) 8 (fit .before .address-of .ensures) (fit .holds .ensures) in
+    let fitting = scratch-holds (start .args .w) 8 (fit .before .address-of .ensures) (fit .holds .ensures) in
     c .at3 .ensures
-    ∙ answers 3329 0 (asked held (c .before .if4 .taken))
+    ∙ answers 3329 0 (asked fitting (c .before .if4 .taken))
     ∙ answers 3073 _ (ap not (eq-eqb _ 0 (aligned .if3 .left)))
     ∙ bits-pass _ (kept .before .store-bit .ensures) _ (kept .if2 .left)
     ∙ own-answer own (inside .if1 .left)
@@ -69,8 +69,8 @@ nothing c =
     let start = known .before in
     let own = eight-bytes (start .args .w) (start .args .rest .now) (start .pre .1) (known .shared-slice-known .given 3 .fits)
     (known .shared-slice-known .given 4 .fits) in
-    let held = scratch-holds (start .args .w) 8 (fit .before .address-of .ensures) (fit .holds .ensures) in
-    answers 3329 0 (asked held (c .if4 .left))
+    let fitting = scratch-holds (start .args .w) 8 (fit .before .address-of .ensures) (fit .holds .ensures) in
+    answers 3329 0 (asked fitting (c .if4 .left))
     ∙ answers 3073 _ (ap not (eq-eqb _ 0 (aligned .if3 .left)))
     ∙ bits-pass _ (kept .before .store-bit .ensures) _ (kept .if2 .left)
     ∙ own-answer own (inside .if1 .left)

@@ -32,9 +32,9 @@ outside c =
     let known = inside .before in
     let start = known .before in
     let own = four-bytes (start .args .w) (start .args .rest .now) (start .pre .1) (known .shared-slice-known .given 3 .fits) in
-    let held = scratch-holds (start .args .w) 4 (fit .before .address-of .ensures) (fit .holds .ensures) in
+    let fitting = scratch-holds (start .args .w) 4 (fit .before .address-of .ensures) (fit .holds .ensures) in
     c .at2 .ensures
-    ∙ answers 3329 0 (asked held (c .before .if3 .taken))
+    ∙ answers 3329 0 (asked fitting (c .before .if3 .taken))
     ∙ bits-pass _ (kept .before .store-bit .ensures) _ (kept .if2 .left)
     ∙ own-answer own (inside .if1 .left)
 
@@ -46,8 +46,8 @@ nothing c =
     let known = inside .before in
     let start = known .before in
     let own = four-bytes (start .args .w) (start .args .rest .now) (start .pre .1) (known .shared-slice-known .given 3 .fits) in
-    let held = scratch-holds (start .args .w) 4 (fit .before .address-of .ensures) (fit .holds .ensures) in
-    answers 3329 0 (asked held (c .if3 .left))
+    let fitting = scratch-holds (start .args .w) 4 (fit .before .address-of .ensures) (fit .holds .ensures) in
+    answers 3329 0 (asked fitting (c .if3 .left))
     ∙ bits-pass _ (kept .before .store-bit .ensures) _ (kept .if2 .left)
     ∙ own-answer own (inside .if1 .left)
 

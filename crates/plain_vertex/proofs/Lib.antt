@@ -1,0 +1,3 @@
+pub mod FormatWords
+pub mod Controls
+pub mod BufferRanges

@@ -1,0 +1,16 @@
+-- `walk::turns::fresh_level` meets its contract: what was taken apart is put together.
+-- Assumes nothing.
+use mathlib.Core.Path.{sym, _∙_}
+use borrow.Author.Needs.{needs}
+use Rattle.walk.proofs.Looping.{same-second, same-first}
+use Rattle.walk.proofs.turns.fresh_level.Statement.{statement}
+use Rattle.walk.proofs.turns.fresh_level.Tie as tie
+
+returns : tie.Need-returns
+returns c = rw (c .kept .ensures) (same-second _ (sym (c .before .before .is-second .ensures) ∙ c .before .if1 .taken))
+
+returns-2 : tie.Need-returns-2
+returns-2 c = same-first _ (sym (c .before .is-second .ensures) ∙ c .if1 .left)
+
+pub fresh-level-spec : {M : Type 1} → statement M
+fresh-level-spec = tie.close (tie.spec (λ c κs. search needs) (λ c κs. search needs) returns returns-2)
