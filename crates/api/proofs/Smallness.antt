@@ -1,11 +1,9 @@
 -- The counts and the scratch length of a file are words, so they fit 32 bits.
 -- Assumes nothing.
-use Prim.Native.Nat.{ℕ, _+_, _-_, _*_, _^_, _<_}
+use Prim.Native.Nat.{ℕ, _+_, _-_, _^_, _<_}
 use native.Mathlib.Omega.{arith}
-use mathlib.Core.Path.{_≡_, sym, subst}
 use mathlib.Core.List.{List}
-use lib.ListN.{length, getD}
-use Rattle.rules.specs.declared.Opened.{Opened}
+use lib.ListN.{getD}
 use Rattle.rules.specs.declared.Verdict.{Verdict}
 use Rattle.rules.specs.declared.Verdict.the-variants.{Pass, Fails}
 use Rattle.rules.specs.Refusals.{firstFault}

@@ -2,12 +2,11 @@
 -- the 65,536th command. It is accepted.
 -- Assumes nothing.
 use Prim.Native.Nat.{ℕ, zero, suc, _+_, _*_, _≤_, _<_}
-use native.Mathlib.Nat.{add-zero}
 use native.Mathlib.Omega.{arith}
 use mathlib.Core.Path.{_≡_, refl, sym, ap, _∙_, subst}
 use mathlib.Core.Bool.{Bool, true, false, _&&_}
-use mathlib.Core.List.{List, [], _∷_, _++_, append-nil}
-use lib.ListN.{length, drop, length-append}
+use mathlib.Core.List.{List, [], _∷_, _++_}
+use lib.ListN.{length, length-append}
 use lib.Dec.{eqb}
 use borrow.Author.Tests.{eqb-true}
 use Rattle.rules.specs.declared.Base.{Base}
@@ -19,12 +18,11 @@ use Rattle.rules.specs.declared.Command.{Command}
 use Rattle.rules.specs.declared.After.the-variants.{Ends, To}
 use Rattle.rules.specs.declared.Outcome.{Outcome}
 use Rattle.rules.specs.declared.Outcome.the-variants.{Taken, Refused}
-use Rattle.rules.specs.declared.Reason.the-variants.{BudgetSpent}
-use Rattle.rules.specs.declared.Verdict.the-variants.{Pass, Fails}
-use Rattle.rules.specs.Refusals.{batchWindow, fault, numberOf, answerWith}
+use Rattle.rules.specs.declared.Verdict.the-variants.{Pass}
+use Rattle.rules.specs.Refusals.{answerWith}
 use Rattle.rules.specs.Windows.{Capture, lengthsOf, windowFault}
 use Rattle.rules.specs.Step.{budget, cursor, stepOf}
-use Rattle.rules.specs.Walk.{Run, ended, then, trace, traceFrom, cut, start, walk, Leads, stays, onward, commandsOf, endOf}
+use Rattle.rules.specs.Walk.{ended, then, trace, traceFrom, cut, start, walk, Leads, stays, onward, commandsOf, endOf}
 use Rattle.rules.specs.Walk.{answerOf}
 use Rattle.rules.specs.Cases.{caseCapture}
 use Rattle.rules.specs.Book.{book}

@@ -16,7 +16,7 @@ use Rattle.rules.specs.Walk.{answerOf, commandsOf, endOf}
 use Rattle.rules.specs.Records.{Checked, wordsOf, writtenOf}
 use Rattle.rules.specs.File.{trailerOf, fileCapture, openedVerdict, openedTold, fileRun, FileRead, Judged}
 use Rattle.walk.specs.Lent.{lentCapture}
-use Rattle.capture.proofs.Reading.{held, parts}
+use Rattle.capture.proofs.Reading.{file-holds, parts}
 
 -- the capture that the buffers hold, by what the file told of itself and the room that the third window has
 abbrev heldCapture : Contents → List ℕ → List ℕ → ℕ → Capture
@@ -47,7 +47,7 @@ module _ {file batch state newBatch newState : List ℕ} where
   unfolding fileCapture
   same-capture f =
       let p = parts f in
-      let h = held file (length batch) (length state) (sym (f .answers)) in
+      let h = file-holds file (length batch) (length state) (sym (f .answers)) in
       rw (p .0, p .1, ← h .counts)
 
   pub read-and-checked : {base : Base} {records newRecords : List ℕ} {contents : Contents} {answer : Answer} {scratch : ℕ}
@@ -56,7 +56,7 @@ module _ {file batch state newBatch newState : List ℕ} where
       → Judged base file batch state records answer newBatch newState newRecords
   unfolding fileRun openedVerdict
   read-and-checked f e k =
-      let h = held file (length batch) (length state) (sym (f .answers)) in
+      let h = file-holds file (length batch) (length state) (sym (f .answers)) in
       let scratches = e ∙ ap (λ (c : Contents). c .scratch .bytes) (h .counts) in
       let k′ = rw (scratches, same-capture f) at k in
       record {

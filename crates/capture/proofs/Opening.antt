@@ -22,18 +22,18 @@ use Rattle.rules.proofs.Trying.{no-fault, stays-failed}
 use Rattle.capture.specs.Offers.{alone}
 
 -- a list of checks is tried in order: first its head, then the next where one passes, and none behind a fault
-first : (check : Offer → Verdict) (checks : List (Offer → Verdict)) (o : Offer)
+first-tried : (check : Offer → Verdict) (checks : List (Offer → Verdict)) (o : Offer)
     → firstFault (check ∷ checks) o ≡ tried checks (check o) o
 unfolding tried
-first check checks o = refl
+first-tried check checks o = refl
 
-next : (check : Offer → Verdict) (checks : List (Offer → Verdict)) (o : Offer) {said : Verdict} → said ≡ Pass
+next-tried : (check : Offer → Verdict) (checks : List (Offer → Verdict)) (o : Offer) {said : Verdict} → said ≡ Pass
     → tried (check ∷ checks) said o ≡ tried checks (check o) o
 unfolding tried
-next check checks o e = rw e
+next-tried check checks o e = rw e
 
-last : (checks : List (Offer → Verdict)) (o : Offer) {said : Verdict} {f : Fault} → said ≡ Fails f → tried checks said o ≡ Fails f
-last checks o {f = f} e = rw e (stays-failed checks f o)
+fault-stays : (checks : List (Offer → Verdict)) (o : Offer) {said : Verdict} {f : Fault} → said ≡ Fails f → tried checks said o ≡ Fails f
+fault-stays checks o {f = f} e = rw e (stays-failed checks f o)
 
 -- a length that is neither under nor over
 size-right : (n : ℕ) → 40 ≤ n → n ≤ 32808 → (ltb n 40 || ltb 32808 n) ≡ false
@@ -47,29 +47,29 @@ module _ (file : List ℕ) (b s : ℕ) where
 
   pub too-small : length file < 40 → NotRead FileSize ≡ openedOf file b s
   unfolding fileChecks
-  too-small h = refused (first _ _ _ ∙ last _ _ (simp (lt-ltb _ _ h)))
+  too-small h = refused (first-tried _ _ _ ∙ fault-stays _ _ (simp (lt-ltb _ _ h)))
 
   pub too-large : 32808 < length file → NotRead FileSize ≡ openedOf file b s
   unfolding fileChecks
   too-large h =
       let least : 40 ≤ length file = omega arith in
-      refused (first _ _ _ ∙ last _ _ (simp (le-ltb _ _ least, lt-ltb _ _ h)))
+      refused (first-tried _ _ _ ∙ fault-stays _ _ (simp (le-ltb _ _ least, lt-ltb _ _ h)))
 
   module _ (least : 40 ≤ length file) (most : length file ≤ 32808) where
     pub wrong-distance : distanceWrong (alone file) ≡ true → NotRead FileDistance ≡ openedOf file b s
     unfolding fileChecks
-    wrong-distance d = refused (first _ _ _ ∙ next _ _ _ (rw (size-right _ least most)) ∙ last _ _ (rw d))
+    wrong-distance d = refused (first-tried _ _ _ ∙ next-tried _ _ _ (rw (size-right _ least most)) ∙ fault-stays _ _ (rw d))
 
     pub wrong-counts : distanceWrong (alone file) ≡ false → fileCountsWrong (alone file) ≡ true
         → NotRead WrongCounts ≡ openedOf file b s
     unfolding fileChecks
-    wrong-counts d n = refused (first _ _ _ ∙ next _ _ _ (rw (size-right _ least most)) ∙ next _ _ _ (rw d) ∙ last _ _ (rw n))
+    wrong-counts d n = refused (first-tried _ _ _ ∙ next-tried _ _ _ (rw (size-right _ least most)) ∙ next-tried _ _ _ (rw d) ∙ fault-stays _ _ (rw n))
 
     pub no-room : distanceWrong (alone file) ≡ false → fileCountsWrong (alone file) ≡ false → bufferShort (offer file b s) ≡ true
         → NotRead BufferShort ≡ openedOf file b s
     unfolding fileChecks
     no-room d n r =
-        refused (first _ _ _ ∙ next _ _ _ (rw (size-right _ least most)) ∙ next _ _ _ (rw d) ∙ next _ _ _ (rw n) ∙ last _ _ (rw r))
+        refused (first-tried _ _ _ ∙ next-tried _ _ _ (rw (size-right _ least most)) ∙ next-tried _ _ _ (rw d) ∙ next-tried _ _ _ (rw n) ∙ fault-stays _ _ (rw r))
 
     pub all-right : {contents : Contents} → distanceWrong (alone file) ≡ false → fileCountsWrong (alone file) ≡ false
         → bufferShort (offer file b s) ≡ false

@@ -33,7 +33,7 @@ opened-passes Pass t e = (refl, same-contents e)
 opened-passes (Fails f) t e = let z : _≡_ {A = ℕ} 0 1 = cc in absurd (omega arith)
 
 -- what a file that is read has shown: its size, that both buffers have room, and where its dwords start
-pub record Held (file : List ℕ) (b s : ℕ) (contents : Contents) : Type 0 where
+pub record FileHolds (file : List ℕ) (b s : ℕ) (contents : Contents) : Type 0 where
   pub counts : contentsOf (trailerOf file) ≡ contents
   pub start : batchFrom file ≡ 0
   pub size : length file ≡ 40 + 4 * (contents .batch .count + contents .state .count)
@@ -58,9 +58,9 @@ right-room file b s e =
     let second = ltb s (trailerOf file .stateCount) in
     (ltb-false _ _ (some-left first second e), ltb-false _ _ (some-right first second e))
 
-pub held : (file : List ℕ) (b s : ℕ) {contents : Contents} → openedOf file b s ≡ Holds contents → Held file b s contents
+pub file-holds : (file : List ℕ) (b s : ℕ) {contents : Contents} → openedOf file b s ≡ Holds contents → FileHolds file b s contents
 unfolding openedOf fileChecks
-held file b s e =
+file-holds file b s e =
     let p = opened-passes (firstFault fileChecks (offer file b s)) (trailerOf file) e in
     let q = all-pass (offer file b s) fileChecks (p .0) in
     let d = right-distance file (refuse-passes (distanceWrong (alone file)) _ (q .1 .0)) in
@@ -86,7 +86,7 @@ module _ {file batch state : List ℕ} where
       → FileRead file batch state (Holds contents) newBatch newState
   unfolding filledBy batchDwords stateDwords
   filled-in e p q =
-      let h = held file (length batch) (length state) e in
+      let h = file-holds file (length batch) (length state) e in
       let first = ap (λ (c : Contents). c .batch .count) (h .counts) in
       let second = ap (λ (c : Contents). c .state .count) (h .counts) in
       record {
@@ -101,7 +101,7 @@ module _ {file batch state : List ℕ} where
       → (take (contents .batch .count) newBatch ≡ batchDwords file) × (take (contents .state .count) newState ≡ stateDwords file)
   unfolding filledBy batchDwords stateDwords
   parts f =
-      let h = held file (length batch) (length state) (sym (f .answers)) in
+      let h = file-holds file (length batch) (length state) (sym (f .answers)) in
       let first = ap (λ (c : Contents). c .batch .count) (h .counts) in
       let second = ap (λ (c : Contents). c .state .count) (h .counts) in (
         rw (f .batchFilled, ← f .answers) (take-at _ _ _ (length-dwords file _ _ ∙ first)),

@@ -1,19 +1,19 @@
 -- Laws of the value rules, one for each way out that a rule's tests alone do not close.
 -- Assumes nothing.
-use Prim.Native.Nat.{ℕ, _+_, _/_, _%_, _^_, _≤_, _<_}
+use Prim.Native.Nat.{ℕ, _/_, _%_, _≤_, _<_}
 use native.Mathlib.Omega.{arith}
-use mathlib.Core.Path.{_≡_, refl, sym, ap, _∙_}
-use mathlib.Core.Bool.{Bool, true, false, not, _&&_, _||_, or-false, and-true, and-false, or-true, Bool·not-not}
+use mathlib.Core.Path.{_≡_}
+use mathlib.Core.Bool.{Bool, true, false, not, _||_, or-false, and-true, and-false, or-true, Bool·not-not}
 use mathlib.Core.List.{List, [], _∷_}
-use lib.ListN.{length, getD, List·getD-eq-default}
+use lib.ListN.{getD, List·getD-eq-default}
 use lib.Dec.{eqb, ltb}
 use borrow.Author.Tests.{eq-eqb, ne-eqb, lt-ltb, le-ltb}
-use Rattle.rules.specs.Words.{bit, field, some}
+use Rattle.rules.specs.Words.{some}
 use Rattle.rules.specs.Formats.{surfaceFormats, formatBits}
 use Rattle.rules.specs.declared.Access.the-variants.{Unused}
 use Rattle.rules.specs.Commands.{rowCount}
 use Rattle.rules.specs.Uses.{Uses, noUse, usesByRow, accessOf}
-use Rattle.rules.specs.Values.{Rule, noRule, afterZero, componentsWrong, primitiveRule, valueRules, ruleOf}
+use Rattle.rules.specs.Values.{Rule, noRule, afterZero, primitiveRule, valueRules, ruleOf}
 
 -- the controls behind the first: a 0 that something follows
 module _ (b c d : ℕ) where

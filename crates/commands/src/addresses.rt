@@ -35,7 +35,7 @@ fn start_use(j: usize) -> Access
     }
 }
 
-pub fn store_use(command: &[u32], j: usize) -> Access
+fn store_use(command: &[u32], j: usize) -> Access
     ensures { λ r. ⌜ r ≡ storeUse (now (command .entry)) 0 j 0 ⌝ }
 {
     if j != 1 {
@@ -68,7 +68,7 @@ fn load_register_use(j: usize) -> Access
     }
 }
 
-pub fn pipe_use(command: &[u32], j: usize) -> Access
+fn pipe_use(command: &[u32], j: usize) -> Access
     ensures { λ r. ⌜ r ≡ pipeUse (now (command .entry)) 0 j 0 ⌝ }
 {
     if j != 2 {
@@ -99,7 +99,7 @@ fn before(k: usize) -> usize
 }
 
 // The range of a vertex buffer, by the first of its dwords and the last.
-pub fn vertex_buffer_range(flags: u32, size: u32) -> Access
+fn vertex_buffer_range(flags: u32, size: u32) -> Access
     ensures { λ r. ⌜ r ≡ vertexBufferUse (flags ∷ 0 ∷ 0 ∷ size ∷ []) 1 2 0 ⌝ }
 {
     if flags / 0x2000 % 2 == 1 {
@@ -121,7 +121,7 @@ fn vertex_buffer_use(command: &[u32], k: usize, j: usize) -> Access
     vertex_buffer_range(dword(command, before(k)), dword(command, k + 2))
 }
 
-pub fn index_buffer_use(command: &[u32], k: usize, j: usize) -> Access
+fn index_buffer_use(command: &[u32], k: usize, j: usize) -> Access
     requires { ⌜ k < length (now command) ⌝ }
     ensures { λ r. ⌜ r ≡ indexBufferUse (now (command .entry)) k j 0 ⌝ }
 {

@@ -12,13 +12,13 @@ use Rattle.rules.specs.Words.{some}
 
 pub listed : (keys : List ℕ) (n : ℕ) → OneOf keys n → some (eqb n) keys ≡ true
 unfolding some
-listed [] n one = absurd one
+listed [] n among = absurd among
 listed (k ∷ []) n e = simp (eq-eqb n k e)
 listed (k ∷ l ∷ keys) n (inl e) = simp (eq-eqb n k e)
-listed (k ∷ l ∷ keys) n (inr one) = simp (listed (l ∷ keys) n one, or-true)
+listed (k ∷ l ∷ keys) n (inr among) = simp (listed (l ∷ keys) n among, or-true)
 
 pub unlisted : (keys : List ℕ) (n : ℕ) → (OneOf keys n → ⊥) → some (eqb n) keys ≡ false
 unfolding some
 unlisted [] n none = refl
 unlisted (k ∷ []) n none = simp (ne-eqb n k none)
-unlisted (k ∷ l ∷ keys) n none = simp (ne-eqb n k (λ e. none (inl e))) (unlisted (l ∷ keys) n (λ one. none (inr one)))
+unlisted (k ∷ l ∷ keys) n none = simp (ne-eqb n k (λ e. none (inl e))) (unlisted (l ∷ keys) n (λ among. none (inr among)))

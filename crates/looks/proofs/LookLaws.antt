@@ -19,7 +19,6 @@ use Rattle.rules.specs.Refusals.{batchWindow, fault, refuseIf}
 use Rattle.rules.specs.Commands.{lengthRight, rowCount}
 use Rattle.rules.specs.Step.{headerAt, rowAt, lengthAt, dwordsAt}
 use Rattle.rules.proofs.Trying.{fails-not-pass, refuse-passes}
-use Rattle.looks.specs.declared.Look.{Look}
 use Rattle.looks.specs.declared.Look.the-variants.{Whole, Wrong}
 use Rattle.looks.specs.Looks.{orElse, contentOf, ownOf, lookBy, lookOf}
 

@@ -66,6 +66,7 @@ accepts-all v bad m = let e : _≡_ {A = ℕ} 0 6 = sym (bad c3 ample) ∙ c3-re
 
 -- by C7
 pub writes-none : (v : Version) → WritesNone v → Meets Unset v → ⊥
+unfolding book
 writes-none v bad m =
     let d = m c7 ample in
     let n = wordsFor (v .answer c7 ample .count) in

@@ -3,7 +3,7 @@
 use Prim.Native.Nat.{ℕ, zero, suc, _≤_}
 use native.Mathlib.Omega.{arith}
 use mathlib.Core.Path.{_≡_, refl, sym, ap, _∙_}
-use mathlib.Core.List.{List, [], _∷_, _++_}
+use mathlib.Core.List.{List}
 use lib.ListN.{length, take, drop, length-append, length-drop}
 use lib.Seq.{take-append-seam, drop-append-seam}
 use Rattle.rules.specs.declared.Answer.{Answer}
@@ -16,7 +16,8 @@ use Rattle.rules.specs.Windows.{Capture, lengthsOf, windowChecks, windowFault}
 use Rattle.rules.specs.Walk.{Run, ended, then, cut, walk, commandsOf, endOf, answerOf}
 use Rattle.rules.specs.Records.{Checked, roomOf, wordsFor, wordsOf, writtenOf}
 use Rattle.rules.proofs.Trying.{first-is}
-use Rattle.rules.proofs.Unique.{words-counted, count-is, one-check}
+use Rattle.rules.proofs.Unique.{count-is, one-check}
+use Rattle.rules.proofs.Listing.{words-counted, room-has-words}
 use Rattle.rules.proofs.Walking.{walk-sound, walk-unsound}
 use Rattle.rules.proofs.Places.{window-place}
 use Rattle.promises.specs.Demand1.{Demand1}
@@ -66,7 +67,7 @@ module _ {base : Base} {c : Capture} {old new : List ℕ} {r : Answer} (p : Chec
   demand-1 =
       let ws = wordsOf (commandsOf (walkOf base c old)) in
       let l = told-short base c (roomOf (length old)) in
-      let n = words-told in
+      let fits = room-has-words _ (length old) l in
       let m = words-counted (commandsOf (walkOf base c old)) in
       record {
         badWindows = bad-windows;

@@ -2,16 +2,14 @@
 -- demands 1 and 2 together are the promise.
 -- Assumes nothing.
 use Prim.Native.Nat.{ℕ}
-use native.Mathlib.Omega.{arith}
 use mathlib.Core.Path.{_≡_, refl, sym, ap, _∙_}
-use mathlib.Core.List.{List, [], _∷_, _++_}
+use mathlib.Core.List.{List, []}
 use mathlib.Core.Logic.{_⊎_, inl, inr, ⊎-elim}
-use lib.ListN.{length, take, drop, take-append-drop}
+use lib.ListN.{length, take, take-append-drop}
 use lib.Dec.{eqb}
 use borrow.Author.Tests.{eqb-true, eqb-false}
 use Rattle.rules.specs.declared.Answer.{Answer}
 use Rattle.rules.specs.declared.Base.{Base}
-use Rattle.rules.specs.declared.Command.{Command}
 use Rattle.rules.specs.declared.Fault.{Fault}
 use Rattle.rules.specs.declared.Verdict.{Verdict}
 use Rattle.rules.specs.declared.Verdict.the-variants.{Pass, Fails}
@@ -21,7 +19,8 @@ use Rattle.rules.specs.Walk.{commandsOf, endOf, answerOf, Complete, WalkFault}
 use Rattle.rules.specs.Records.{Checked, roomOf, wordsFor, wordsOf, writtenOf}
 use Rattle.rules.proofs.Searching.{either}
 use Rattle.rules.proofs.Trying.{first-fault, first-is}
-use Rattle.rules.proofs.Unique.{words-counted, count-is, zero-is-pass, pass-is-zero}
+use Rattle.rules.proofs.Unique.{count-is, zero-is-pass, pass-is-zero}
+use Rattle.rules.proofs.Listing.{words-counted}
 use Rattle.rules.proofs.Walking.{walk-unsound, refusal, accepted-passes, passes-accepted, completion}
 use Rattle.rules.proofs.Deciding.{complete-told, fault-told}
 use Rattle.promises.specs.Demand1.{Demand1}

@@ -1,7 +1,6 @@
 -- From the promise of `capture::judge` to that of `walk::check` on the capture that the file holds, and so to the three demands for a file.
 -- Assumes nothing.
 use Prim.Native.Nat.{ℕ}
-use native.Mathlib.Omega.{arith}
 use mathlib.Core.Path.{_≡_, refl, sym, ap, _∙_}
 use mathlib.Core.List.{List}
 use lib.ListN.{length}
@@ -10,10 +9,10 @@ use Rattle.rules.specs.declared.Base.{Base}
 use Rattle.rules.specs.declared.Fault.{Fault}
 use Rattle.rules.specs.declared.Verdict.{Verdict}
 use Rattle.rules.specs.declared.Verdict.the-variants.{Pass, Fails}
-use Rattle.rules.specs.Refusals.{AllPass, FirstFault, firstFault, batchWindow, fault, answerWith, numberOf}
+use Rattle.rules.specs.Refusals.{AllPass, FirstFault, firstFault, batchWindow, fault, answerWith}
 use Rattle.rules.specs.Walk.{answerOf, commandsOf, endOf}
 use Rattle.rules.specs.Records.{Checked, wordsOf, writtenOf}
-use Rattle.rules.specs.File.{offer, trailerOf, fileChecks, contentsOf, openedBy, openedOf, openedVerdict, filledBy, fileCapture, fileRun, Judged}
+use Rattle.rules.specs.File.{offer, fileChecks, openedOf, openedVerdict, filledBy, fileCapture, fileRun, Judged}
 use Rattle.rules.proofs.Trying.{fails-not-pass, all-pass, no-fault, first-is}
 use Rattle.rules.proofs.Unique.{zero-is-pass}
 use Rattle.promises.specs.Files.{Unread, Judgement, FileDemands}

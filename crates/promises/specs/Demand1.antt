@@ -7,7 +7,6 @@ use mathlib.Core.List.{List}
 use lib.ListN.{length, drop}
 use Rattle.rules.specs.declared.Answer.{Answer}
 use Rattle.rules.specs.declared.Fault.{Fault}
-use Rattle.rules.specs.declared.Verdict.the-variants.{Fails}
 use Rattle.rules.specs.Refusals.{FirstFault, numberOf}
 use Rattle.rules.specs.Windows.{Capture, lengthsOf, windowChecks}
 use Rattle.rules.specs.Records.{roomOf, wordsFor}

@@ -4,11 +4,9 @@ use Prim.Native.Nat.{ℕ, _+_}
 use native.Mathlib.Omega.{arith}
 use mathlib.Core.Path.{_≡_, refl, sym, ap, _∙_}
 use mathlib.Core.Bool.{true}
-use mathlib.Core.List.{List, [], _∷_}
+use mathlib.Core.List.{List, _∷_}
 use mathlib.Core.Logic.{inl, inr}
 use lib.ListN.{getD}
-use Rattle.rules.specs.declared.Base.{Base}
-use Rattle.rules.specs.declared.Level.{Level}
 use Rattle.rules.specs.declared.Level.the-variants.{First, Second}
 use Rattle.rules.specs.declared.Cursor.{Cursor}
 use Rattle.rules.specs.declared.Command.{Command}
@@ -18,7 +16,7 @@ use Rattle.rules.specs.declared.Outcome.the-variants.{Taken}
 use Rattle.rules.specs.Words.{bit}
 use Rattle.rules.specs.Windows.{Capture}
 use Rattle.rules.specs.Commands.{endRow, startRow}
-use Rattle.rules.specs.Step.{headerAt, rowAt, lengthAt, dwordsAt, commandAt as walkCommand, stepOf}
+use Rattle.rules.specs.Step.{rowAt, dwordsAt, commandAt as walkCommand, stepOf}
 use Rattle.rules.proofs.Stepping.{took, passed}
 use Rattle.rules.proofs.Moving.{Way, ends, returns, jumps, calls, goes-on, taken-way, nextAt, same-cursor, ends-nowhere, first-keeps-none, same-kept, return-level}
 use Rattle.replay.specs.Streamer.{Machine, Effect}
@@ -80,10 +78,10 @@ module _ (c : Capture) (s : Cursor) (m : Machine) (g : Agrees c s m) (k : Comman
   -- and one that ends the run is at level 0
   pub ends-first : stepOf c s ≡ Taken k Ends → fetchedCommand m .level ≡ 1 → ⊥
   unfolding walkCommand
-  ends-first e one = by Ends refl (taken-way c s e)
+  ends-first e second = by Ends refl (taken-way c s e)
     where
       by : (a : After) → a ≡ Ends → Way c s a → ⊥
-      by a q (ends r l) = let z : _≡_ {A = ℕ} 0 1 = ap Rattle.rules.specs.Step.levelNumber (sym l) ∙ ap (λ (j : Command). j .level) (sym (told e)) ∙ one in omega arith
+      by a q (ends r l) = let z : _≡_ {A = ℕ} 0 1 = ap Rattle.rules.specs.Step.levelNumber (sym l) ∙ ap (λ (j : Command). j .level) (sym (told e)) ∙ second in omega arith
       by a q (returns r l) = absurd (ends-nowhere (sym q))
       by a q (jumps r b) = absurd (ends-nowhere (sym q))
       by a q (calls r b) = absurd (ends-nowhere (sym q))

@@ -27,7 +27,7 @@ use Rattle.rules.specs.Addresses.{rangeWrong}
 use Rattle.rules.specs.Step.{headerAt, rowAt, lengthAt, dwordsAt, cursor, commandAt as walkCommand, stepOf}
 use Rattle.rules.proofs.Stepping.{Passed, passed, took}
 use Rattle.rules.proofs.Ranges.{Sound}
-use Rattle.rules.proofs.Storing.{Stores, row-four, row-five, row-seven, stores-in-scratch, access-fits, load-register-reaches}
+use Rattle.rules.proofs.Storing.{Stores, stores-data, stores-register, stores-post-sync, stores-in-scratch, access-fits, load-register-reaches}
 use Rattle.rules.proofs.Moving.{Way, ends, returns, jumps, calls, goes-on, taken-way, target-inside, targetAt, first-keeps-none, same-kept}
 use Rattle.replay.specs.Streamer.{Machine, machine, Effect, Step, goes, Hardware, storeWords, onward, stores, update, withRegisters}
 use Rattle.replay.specs.Streamer.{endBatch, goingTo, startBatch, step}
@@ -75,50 +75,50 @@ same-level First e = rw e
 same-level (Second back) e = rw e
 
 module _ (c : Capture) (sound : Sound (listed (windowsOf c))) (hardware : Hardware) (done : ℕ) (s : Cursor) (m : Machine) (p : Passed c s) (g : Agrees c s m) where
-  abbrev r : ℕ
-  r = rowAt (c .batch) (s .at)
+  abbrev rowHere : ℕ
+  rowHere = rowAt (c .batch) (s .at)
 
   abbrev header : ℕ
   header = headerAt (c .batch) (s .at)
 
-  abbrev n : ℕ
-  n = lengthAt (c .batch) (s .at)
+  abbrev lengthHere : ℕ
+  lengthHere = lengthAt (c .batch) (s .at)
 
-  abbrev d : List ℕ
-  d = dwordsAt (c .batch) (s .at)
+  abbrev dwordsHere : List ℕ
+  dwordsHere = dwordsAt (c .batch) (s .at)
 
   abbrev run : Step
   run = step (mapOf c) hardware done m
 
   -- the row that the machine finds, and the length that this row gives it
-  in-row : {k : ℕ} → row m ≡ k → r ≡ k
+  in-row : {k : ℕ} → row m ≡ k → rowHere ≡ k
   in-row e = sym (row-is c s m p g) ∙ e
 
   right : {k : ℕ} → row m ≡ k → lengthRight k header ≡ true
   right e = ap (λ (i : ℕ). lengthRight i header) (sym (in-row e)) ∙ p .right
 
-  exact : (k : ℕ) {f : ℕ} → row m ≡ k → theRow k .total ≡ exactly f → n ≡ f + 2
+  exact : (k : ℕ) {f : ℕ} → row m ≡ k → theRow k .total ≡ exactly f → lengthHere ≡ f + 2
   exact k e t = ap (λ (i : ℕ). lengthOf i header) (in-row e) ∙ exact-length k header t (right e)
 
-  store-long : row m ≡ 4 → 4 ≤ n
+  store-long : row m ≡ 4 → 4 ≤ lengthHere
   store-long e = rw (in-row e) (store-length header (right e))
 
   -- every dword that it uses is its own, so that it is whole
-  uses-own : Kind (row m) → operands m < n
+  uses-own : Kind (row m) → operands m < lengthHere
   unfolding operands rows theRow
-  uses-own (an-end e) = rw e (some-long r header)
-  uses-own (a-start e) = let l : n ≡ 3 = exact 2 e refl in rw e (omega arith)
-  uses-own (sets e) = let l = some-long r header in let t = total-is c s m p g in rw e (omega arith)
-  uses-own (loads e) = let l : n ≡ 4 = exact 6 e refl in rw e (omega arith)
+  uses-own (an-end e) = rw e (some-long rowHere header)
+  uses-own (a-start e) = let l : lengthHere ≡ 3 = exact 2 e refl in rw e (omega arith)
+  uses-own (sets e) = let l = some-long rowHere header in let t = total-is c s m p g in rw e (omega arith)
+  uses-own (loads e) = let l : lengthHere ≡ 4 = exact 6 e refl in rw e (omega arith)
   uses-own (a-store (inl e)) = let l = store-long e in let t = total-is c s m p g in rw e (omega arith)
-  uses-own (a-store (inr (inl e))) = let l : n ≡ 4 = exact 5 e refl in rw e (omega arith)
-  uses-own (a-store (inr (inr e))) = let l : n ≡ 6 = exact 7 e refl in rw (e, l) (by (eqb (postSync m) 0) (eqb (postSync m) 1))
+  uses-own (a-store (inr (inl e))) = let l : lengthHere ≡ 4 = exact 5 e refl in rw e (omega arith)
+  uses-own (a-store (inr (inr e))) = let l : lengthHere ≡ 6 = exact 7 e refl in rw (e, l) (by (eqb (postSync m) 0) (eqb (postSync m) 1))
     where
       by : (a b : Bool) → cond a 1 (cond b 5 3) < 6
       by true b = lit< tt
       by false true = lit< tt
       by false false = lit< tt
-  uses-own (other o) = rw (no-operands m o) (some-long r header)
+  uses-own (other o) = rw (no-operands m o) (some-long rowHere header)
 
   whole : Whole m
   whole = record {
@@ -133,7 +133,7 @@ module _ (c : Capture) (sound : Sound (listed (windowsOf c))) (hardware : Hardwa
 
   -- a command that goes on by its length
   abbrev Went : Base → Type 0
-  Went b = (x : Effect) × (run ≡ goes x) × Agrees c (cursor (s .at + n) (s .level) b) (x .machine) × AllInScratch c (x .stored)
+  Went b = (x : Effect) × (run ≡ goes x) × Agrees c (cursor (s .at + lengthHere) (s .level) b) (x .machine) × AllInScratch c (x .stored)
 
   went : {e : Effect} (b : Base) → Stored c m e
       → run ≡ goes (record { machine = onward (total m) (e .machine); stored = e .stored }) → Went b
@@ -160,69 +160,69 @@ module _ (c : Capture) (sound : Sound (listed (windowsOf c))) (hardware : Hardwa
   }
 
   -- the allowed bits of the low dwords of addresses leave out the lowest two
-  low-1 : (r : ℕ) → (r ≡ 2) ⊎ (r ≡ 4) → allowedAt r d 1 % 4 ≡ 0
+  low-1 : (r : ℕ) → (r ≡ 2) ⊎ (r ≡ 4) → allowedAt r dwordsHere 1 % 4 ≡ 0
   unfolding allowedOf allowedAt masksOf rows theRow groupSize inGroup
   low-1 r (inl e) = rw e
   low-1 r (inr e) = rw e
 
-  low-2 : (r : ℕ) → (r ≡ 5) ⊎ (r ≡ 6) ⊎ (r ≡ 7) → allowedAt r d 2 % 4 ≡ 0
+  low-2 : (r : ℕ) → (r ≡ 5) ⊎ (r ≡ 6) ⊎ (r ≡ 7) → allowedAt r dwordsHere 2 % 4 ≡ 0
   unfolding allowedOf allowedAt masksOf rows theRow groupSize inGroup
   low-2 r (inl e) = rw e
   low-2 r (inr (inl e)) = rw e
   low-2 r (inr (inr e)) = rw e
 
   -- what a store's range says
-  in-scratch : (k : ℕ) → r ≡ k → {low bytes : ℕ} → Stores d k low bytes → low < n
-      → Inside (windowsOf c .scratch) (addressAt d low) bytes
+  in-scratch : (k : ℕ) → rowHere ≡ k → {low bytes : ℕ} → Stores dwordsHere k low bytes → low < lengthHere
+      → Inside (windowsOf c .scratch) (addressAt dwordsHere low) bytes
   in-scratch k e {low} {bytes} t l =
-      stores-in-scratch (windowsOf c) k d low bytes t (ap₂ lengthRight (sym e) (header-is c s m p g) ∙ p .right)
-      (ap (λ (i : ℕ). rangeWrong (windowsOf c) i d low) (sym e) ∙ p .ranges low l)
+      stores-in-scratch (windowsOf c) k dwordsHere low bytes t (ap₂ lengthRight (sym e) (header-is c s m p g) ∙ p .right)
+      (ap (λ (i : ℕ). rangeWrong (windowsOf c) i dwordsHere low) (sym e) ∙ p .ranges low l)
 
   -- words stored in scratch, at the address in the dwords `low` and `low + 1`
-  storing : (b : Base) → StoringRow (row m) → (low : ℕ) {bytes : ℕ} → low < n → storesAt m ≡ addressAt d low
-      → allowedAt r d low % 4 ≡ 0
-      → Inside (windowsOf c .scratch) (addressAt d low) bytes → bytes ≡ 4 * length (toStore hardware done m) → Went b
+  storing : (b : Base) → StoringRow (row m) → (low : ℕ) {bytes : ℕ} → low < lengthHere → storesAt m ≡ addressAt dwordsHere low
+      → allowedAt rowHere dwordsHere low % 4 ≡ 0
+      → Inside (windowsOf c .scratch) (addressAt dwordsHere low) bytes → bytes ≡ 4 * length (toStore hardware done m) → Went b
   storing b k low l a free i many =
       let ws = toStore hardware done m in
       let x = stored-words c sound ws m (g .windowed) (storesAt m) (rw a (aligned c s m p g low l free))
-      (rw a (subst (λ (size : ℕ). Inside (windowsOf c .scratch) (addressAt d low) size) many i)) in
+      (rw a (subst (λ (size : ℕ). Inside (windowsOf c .scratch) (addressAt dwordsHere low) size) many i)) in
       went b (x .2) (step-stores (mapOf c) hardware done m whole k ∙ ap (stores (total m)) (x .1))
 
-  four-case : (b : Base) → row m ≡ 4 → Went b
+  store-case : (b : Base) → row m ≡ 4 → Went b
   unfolding storesAt toStore
-  four-case b e =
+  store-case b e =
       let l = store-long e in
-      storing b (inl e) 1 (omega arith) (rw e (address-is c s m p g 1 (omega arith))) (low-1 r (inr (in-row e))) (in-scratch 4 (in-row e) row-four (omega arith))
+      storing b (inl e) 1 (omega arith) (rw e (address-is c s m p g 1 (omega arith))) (low-1 rowHere (inr (in-row e))) (in-scratch 4 (in-row e) stores-data (omega arith))
       (rw (e, dwords-counted m (total m - 3) 3, total-is c s m p g, header-is c s m p g) (ap (λ (i : ℕ). 4 * (lengthOf i header - 3)) (sym (in-row e))))
 
-  five-case : (b : Base) → row m ≡ 5 → Went b
+  store-register-case : (b : Base) → row m ≡ 5 → Went b
   unfolding storesAt toStore rows theRow
-  five-case b e =
-      let l : n ≡ 4 = exact 5 e refl in
-      storing b (inr (inl e)) 2 (omega arith) (rw e (address-is c s m p g 2 (omega arith))) (low-2 r (inl (in-row e))) (in-scratch 5 (in-row e) row-five (omega arith))
+  store-register-case b e =
+      let l : lengthHere ≡ 4 = exact 5 e refl in
+      storing b (inr (inl e)) 2 (omega arith) (rw e (address-is c s m p g 2 (omega arith))) (low-2 rowHere (inl (in-row e))) (in-scratch 5 (in-row e) stores-register (omega arith))
       (rw e)
 
-  six-case : (b : Base) → row m ≡ 6 → Went b
+  load-register-case : (b : Base) → row m ≡ 6 → Went b
   unfolding rows theRow
-  six-case b e =
-      let l : n ≡ 4 = exact 6 e refl in
-      let f = access-fits (windowsOf c) 6 d 2 (load-register-reaches d) (ap (λ (i : ℕ). rangeWrong (windowsOf c) i d 2) (sym (in-row e)) ∙ p .ranges 2 (omega arith)) in
-      let v = loaded-word c sound m (g .windowed) (addressAt d 2) (aligned c s m p g 2 (omega arith) (low-2 r (inr (inl (in-row e))))) f in
+  load-register-case b e =
+      let l : lengthHere ≡ 4 = exact 6 e refl in
+      let f = access-fits (windowsOf c) 6 dwordsHere 2 (load-register-reaches dwordsHere) (ap (λ (i : ℕ). rangeWrong (windowsOf c) i dwordsHere 2) (sym (in-row e)) ∙ p .ranges 2 (omega arith)) in
+      let v = loaded-word c sound m (g .windowed) (addressAt dwordsHere 2) (aligned c s m p g 2 (omega arith) (low-2 rowHere (inr (inl (in-row e))))) f in
       went b (idle (update (m .registers) (dword m 1) (v .0)))
       (step-load (mapOf c) hardware done m whole e ∙ rw (address-is c s m p g 2 (omega arith), v .1))
 
-  seven-case : (b : Base) → row m ≡ 7 → Went b
+  pipe-case : (b : Base) → row m ≡ 7 → Went b
   unfolding storesAt toStore storeWords rows theRow
-  seven-case b e = by (eqb (postSync m) 0) (eqb (postSync m) 1) refl refl
+  pipe-case b e = by (eqb (postSync m) 0) (eqb (postSync m) 1) refl refl
     where
-      l : n ≡ 6
+      l : lengthHere ≡ 6
       l = exact 7 e refl
 
       some-sync : eqb (postSync m) 0 ≡ false → 8 ≡ 4 * length (toStore hardware done m) → Went b
       some-sync q many =
-          let given : (field (getD d 1 0) 15 14 ≡ 0 → ⊥) = rw (dword-is c s m p g 1 (omega (arith, l))) at (eqb-false (postSync m) 0 q) in
-          storing b (inr (inr e)) 2 (omega (arith, l)) (rw e (address-is c s m p g 2 (omega (arith, l)))) (low-2 r (inr (inr (in-row e))))
-          (in-scratch 7 (in-row e) (row-seven given) (omega (arith, l))) many
+          let given : (field (getD dwordsHere 1 0) 15 14 ≡ 0 → ⊥) = rw (dword-is c s m p g 1 (omega (arith, l))) at (eqb-false (postSync m) 0 q) in
+          storing b (inr (inr e)) 2 (omega (arith, l)) (rw e (address-is c s m p g 2 (omega (arith, l)))) (low-2 rowHere (inr (inr (in-row e))))
+          (in-scratch 7 (in-row e) (stores-post-sync given) (omega (arith, l))) many
 
       by : (x y : Bool) → eqb (postSync m) 0 ≡ x → eqb (postSync m) 1 ≡ y → Went b
       by true y q t = went b (idle (m .registers)) (step-stores (mapOf c) hardware done m whole (inr (inr e)) ∙ rw (e, q))
@@ -230,27 +230,27 @@ module _ (c : Capture) (sound : Sound (listed (windowsOf c))) (hardware : Hardwa
       by false false q t = some-sync q (rw (e, q, t))
 
   -- all that go on by their length
-  others : (b : Base) → (r ≡ 1 → ⊥) → (r ≡ 2 → ⊥) → Kind (row m) → Went b
+  others : (b : Base) → (rowHere ≡ 1 → ⊥) → (rowHere ≡ 2 → ⊥) → Kind (row m) → Went b
   others b not-1 not-2 (an-end e) = absurd (not-1 (in-row e))
   others b not-1 not-2 (a-start e) = absurd (not-2 (in-row e))
   others b not-1 not-2 (sets e) = went b (idle _) (step-registers (mapOf c) hardware done m whole e)
-  others b not-1 not-2 (loads e) = six-case b e
-  others b not-1 not-2 (a-store (inl e)) = four-case b e
-  others b not-1 not-2 (a-store (inr (inl e))) = five-case b e
-  others b not-1 not-2 (a-store (inr (inr e))) = seven-case b e
+  others b not-1 not-2 (loads e) = load-register-case b e
+  others b not-1 not-2 (a-store (inl e)) = store-case b e
+  others b not-1 not-2 (a-store (inr (inl e))) = store-register-case b e
+  others b not-1 not-2 (a-store (inr (inr e))) = pipe-case b e
   others b not-1 not-2 (other o) = went b (idle (m .registers)) (step-other (mapOf c) hardware done m whole o)
 
   -- a start: its target is a dword of the batch
-  starting : r ≡ 2 → run ≡ goes (record { machine = goingTo m (bit (getD d 0 0) 22) (m .at + n) (targetAt c s); stored = [] })
+  starting : rowHere ≡ 2 → run ≡ goes (record { machine = goingTo m (bit (getD dwordsHere 0 0) 22) (m .at + lengthHere) (targetAt c s); stored = [] })
   unfolding rows theRow startBatch windowsOf
   starting e =
       let q = row-is c s m p g ∙ e in
-      let l : n ≡ 3 = exact 2 q refl in
+      let l : lengthHere ≡ 3 = exact 2 q refl in
       let i = target-inside c s p e in
-      let a = aligned c s m p g 1 (omega arith) (low-1 r (inl e)) in
+      let a = aligned c s m p g 1 (omega arith) (low-1 rowHere (inl e)) in
       let k : c .batchAt % 4096 ≡ 0 = sound .aligned 0 (lit< tt) in
-      let lo : c .batchAt ≤ addressAt d 1 = i .low in
-      let f : (addressAt d 1 - c .batchAt) % 4 ≡ 0 = omega arith in
+      let lo : c .batchAt ≤ addressAt dwordsHere 1 = i .low in
+      let f : (addressAt dwordsHere 1 - c .batchAt) % 4 ≡ 0 = omega arith in
       step-start (mapOf c) hardware done m whole q
       ∙ rw (dword-is c s m p g 0 (omega arith), total-is c s m p g, address-is c s m p g 1 (omega arith), le-leb _ _ lo, eq-eqb _ 0 f)
 
@@ -269,18 +269,18 @@ module _ (c : Capture) (sound : Sound (listed (windowsOf c))) (hardware : Hardwa
     tt,
   )
   moved (jumps r b) = (
-    record { machine = goingTo m false (m .at + n) (targetAt c s); stored = [] },
+    record { machine = goingTo m false (m .at + lengthHere) (targetAt c s); stored = [] },
     starting r ∙ rw b,
     record { at = refl; level = g .level; kept = g .kept; windowed = kept-windows _ refl refl refl },
     tt,
   )
   moved (calls r b) = (
-    record { machine = goingTo m true (m .at + n) (targetAt c s); stored = [] },
+    record { machine = goingTo m true (m .at + lengthHere) (targetAt c s); stored = [] },
     starting r ∙ rw b,
     record {
       at = refl;
       level = refl;
-      kept = λ back q. ap some (ap (λ (i : ℕ). i + n) (g .at) ∙ same-kept q);
+      kept = λ back q. ap some (ap (λ (i : ℕ). i + lengthHere) (g .at) ∙ same-kept q);
       windowed = kept-windows _ refl refl refl;
     },
     tt,

@@ -26,12 +26,12 @@ pub record Windowed (c : Capture) (m : Machine) : Type 0 where
 
 -- an address that a test of a word passes, and one that passes it
 module _ (at address : ℕ) (words : List ℕ) where
-  test : Bool
-  test = leb at address && (eqb ((address - at) % 4) 0 && ltb ((address - at) / 4) (length words))
+  word-test : Bool
+  word-test = leb at address && (eqb ((address - at) % 4) 0 && ltb ((address - at) / 4) (length words))
 
-  held : test ≡ true → Inside (lent at (length words)) address 4
-  unfolding test
-  held e =
+  passing-inside : word-test ≡ true → Inside (lent at (length words)) address 4
+  unfolding word-test
+  passing-inside e =
       let r = and-right (leb at address) _ e in
       let a = leb-true at address (and-left (leb at address) _ e) in
       let b : (address - at) % 4 ≡ 0 = eqb-true _ 0 (and-left (eqb ((address - at) % 4) 0) _ r) in
@@ -44,8 +44,8 @@ module _ (at address : ℕ) (words : List ℕ) where
   found a b d = rw (le-leb _ _ a, eq-eqb _ 0 b, lt-ltb _ _ d)
 
   pub unfound : (Inside (lent at (length words)) address 4 → ⊥) → wordAt at words address ≡ none
-  unfolding wordAt test
-  unfound n = ⊎-elim (λ e. absurd (n (held e))) (λ e. ap (λ t. cond t (some ((address - at) / 4)) none) e) (either test)
+  unfolding wordAt word-test
+  unfound n = ⊎-elim (λ e. absurd (n (passing-inside e))) (λ e. ap (λ t. cond t (some ((address - at) / 4)) none) e) (either word-test)
 
 -- two of sound windows hold no word together
 apart : (ws : List Window) → Sound ws → (i j : ℕ) → i < j → j < length ws → (a : ℕ) → Inside (getD ws i noWindow) a 4

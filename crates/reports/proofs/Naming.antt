@@ -6,7 +6,7 @@ use native.Mathlib.Omega.{arith}
 use mathlib.Core.Path.{_≡_, refl, sym, ap, _∙_}
 use mathlib.Core.List.{List, [], _∷_, _++_, map, map-append, append-assoc, append-nil}
 use lib.ListN.{length, getD, take, drop, set, length-map, length-set, drop-of-length-le}
-use lib.Seq.{take-suc, take-all, drop-cons, append-snoc, length-take-le, getD-append-seam, set-append-seam}
+use lib.Seq.{take-suc, take-all, drop-cons, length-take-le, getD-append-seam, set-append-seam}
 use borrow.Author.Tests.{lt-ltb, le-ltb, ne-eqb}
 use Rattle.reports.specs.Reports.{shown}
 

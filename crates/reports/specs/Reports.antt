@@ -1,7 +1,7 @@
 -- What both programs tell of a run over files: how a name is shown, and the line that tells a status.
 use Prim.Native.Nat.{ℕ, _+_, min}
 use mathlib.Core.Bool.{cond, _||_}
-use mathlib.Core.List.{List, [], _∷_, _++_}
+use mathlib.Core.List.{List, _∷_, _++_}
 use lib.Dec.{ltb, eqb}
 use Rattle.rules.specs.Printout.{bytes}
 

@@ -1,7 +1,7 @@
 -- What demand 2 says of a walk decides it: where no check faults, where the commands are a run to the end, and where a fault is the first, the walk's
 -- own end and commands are these and no others.
 -- Assumes nothing.
-use Prim.Native.Nat.{ℕ, suc, _<_}
+use Prim.Native.Nat.{ℕ, _<_}
 use native.Mathlib.Omega.{arith}
 use mathlib.Core.Path.{_≡_, refl, sym, ap, _∙_, subst}
 use mathlib.Core.List.{List, [], _∷_, _++_}

@@ -12,5 +12,6 @@ pub mod Depths
 pub mod Unique
 pub mod Places
 pub mod Recording
+pub mod Listing
 pub mod Readings
 pub mod Deciding

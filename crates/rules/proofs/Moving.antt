@@ -1,10 +1,10 @@
 -- Where a command that is taken leads: the five ways, a return to level 0 among them, and that the walk never leaves the batch.
 -- Assumes nothing.
-use Prim.Native.Nat.{ℕ, zero, suc, _+_, _-_, _*_, _/_, _%_, _^_, _≤_, _<_}
+use Prim.Native.Nat.{ℕ, _+_, _-_, _≤_, _<_}
 use native.Mathlib.Omega.{arith}
-use mathlib.Core.Path.{_≡_, refl, sym, ap, _∙_, subst}
+use mathlib.Core.Path.{_≡_, refl, sym, ap, _∙_}
 use mathlib.Core.Bool.{Bool, true, false, cond}
-use mathlib.Core.List.{List, [], _∷_}
+use mathlib.Core.List.{List}
 use lib.ListN.{length, getD}
 use lib.Dec.{eqb}
 use borrow.Author.Tests.{eqb-true, eqb-false}
@@ -16,7 +16,7 @@ use Rattle.rules.specs.declared.Command.{Command}
 use Rattle.rules.specs.declared.After.{After}
 use Rattle.rules.specs.declared.After.the-variants.{Ends, To}
 use Rattle.rules.specs.declared.Outcome.the-variants.{Taken}
-use Rattle.rules.specs.Words.{bit, field}
+use Rattle.rules.specs.Words.{bit}
 use Rattle.rules.specs.Windows.{Capture, windowsOf, dwordOf, Inside}
 use Rattle.rules.specs.Commands.{rows, theRow, lengthOf, endRow, startRow}
 use Rattle.rules.specs.Uses.{accessAt, addressAt}

@@ -1,8 +1,8 @@
 -- The place of a refusal is a dword of the window that it names, or the batch's end.
 -- Assumes nothing.
-use Prim.Native.Nat.{ℕ, zero, suc, _+_, _-_, _*_, _/_, _%_, _≤_, _<_}
+use Prim.Native.Nat.{ℕ, _+_, _-_, _*_, _/_, _≤_, _<_}
 use native.Mathlib.Omega.{arith}
-use mathlib.Core.Path.{_≡_, refl, sym, ap, _∙_}
+use mathlib.Core.Path.{_≡_, refl, sym, _∙_}
 use mathlib.Core.Bool.{Bool, true, false, cond, not, _&&_}
 use mathlib.Core.List.{List, [], _∷_}
 use mathlib.Core.Logic.{_⊎_, inl, inr, ⊎-elim}
@@ -14,7 +14,6 @@ use Rattle.rules.specs.declared.Held.the-variants.{InBatch, InState, Now
 use Rattle.rules.specs.declared.Base.{Base}
 use Rattle.rules.specs.declared.Base.the-variants.{Unset, Set}
 use Rattle.rules.specs.declared.Kind.{Kind}
-use Rattle.rules.specs.declared.Kind.the-variants.{Viewport, ColourCalc}
 use Rattle.rules.specs.declared.Pointer.{Pointer}
 use Rattle.rules.specs.declared.Pointer.the-variants.{NoPointer, PointsTo}
 use Rattle.rules.specs.declared.Cursor.{Cursor}
@@ -33,7 +32,7 @@ use Rattle.rules.specs.Refusals.{batchWindow, stateWindow, fault, refuse
 use Rattle.rules.specs.Windows.{Capture, Lengths, windowLimit, listed, countsWrong, unaligned, endsTooHigh, shareByte, windowChecks, windowFault, lent, holds, holdsDwords, heldAt}
 use Rattle.rules.specs.Commands.{rows, rowCount, theRow, lengthOf, lengthRight}
 use Rattle.rules.specs.Structures.{Asked, askedAt, layoutOf, nowhere, heldWindow, heldFrom, structureNowhere, structureBit, structureValue, structureChecks}
-use Rattle.rules.specs.Step.{Here, here, headerAt, rowAt, lengthAt, dwordsAt, pointerOf, nested, baseMissing, pointed, ofStructure}
+use Rattle.rules.specs.Step.{here, headerAt, rowAt, lengthAt, dwordsAt, pointerOf, nested, baseMissing, pointed}
 use Rattle.rules.specs.Step.{ranOff, unknownHeader, wrongLength, pastTheWindow, bitNotAllowed, nestedStart, valueBroken}
 use Rattle.rules.specs.Step.{rangeOutside, baseNeverSet, stepChecks, stepOf}
 use Rattle.rules.specs.File.{Offer, sizeWrong, distanceWrong, fileCountsWrong, bufferShort, fileChecks}

@@ -1,12 +1,12 @@
 -- A range that fits lies in exactly one window, and no sum in it wraps or runs over the window's end.
 -- Assumes nothing.
-use Prim.Native.Nat.{ℕ, zero, suc, _+_, _-_, _*_, _/_, _%_, _^_, _≤_, _<_}
+use Prim.Native.Nat.{ℕ, zero, suc, _+_, _-_, _%_, _^_, _≤_, _<_}
 use native.Mathlib.Nat.{le-of-suc-le-suc, not-suc-le-zero}
 use native.Mathlib.Omega.{arith}
-use mathlib.Core.Path.{_≡_, refl, sym, ap, _∙_}
-use mathlib.Core.Bool.{Bool, true, false, _&&_, _||_}
+use mathlib.Core.Path.{_≡_, refl}
+use mathlib.Core.Bool.{Bool, true, false}
 use mathlib.Core.List.{List, [], _∷_}
-use mathlib.Core.Logic.{_⊎_, inl, inr, ⊎-elim}
+use mathlib.Core.Logic.{_⊎_, ⊎-elim}
 use lib.ListN.{length, getD}
 use lib.Dec.{leb, ltb, eqb}
 use borrow.Author.Tests.{leb-true, ltb-true, lt-ltb, ltb-false, eqb-true, not-false}
@@ -15,8 +15,8 @@ use Rattle.rules.specs.declared.Windows.{Windows}
 use Rattle.rules.specs.declared.Within.the-variants.{BatchOnly, ScratchOnly, AnyWindow}
 use Rattle.rules.specs.declared.Verdict.the-variants.{Pass}
 use Rattle.rules.specs.Words.{some, someTwo}
-use Rattle.rules.specs.Windows.{Capture, windowLimit, pageBytes, countsWrong, unaligned, window, listed, end, windowsOf}
-use Rattle.rules.specs.Windows.{endsTooHigh, shareByte, windowChecks, lengthsOf, Lengths, windowFault, holds, Inside, windowsWithin, fits}
+use Rattle.rules.specs.Windows.{windowLimit, pageBytes, countsWrong, unaligned, window, listed, end}
+use Rattle.rules.specs.Windows.{endsTooHigh, shareByte, windowChecks, Lengths, windowFault, holds, Inside, windowsWithin, fits}
 use Rattle.rules.proofs.Searching.{either, never-both, some-left, some-right, or-cases, and-left, and-right}
 use Rattle.rules.proofs.Trying.{all-pass, refuse-passes}
 
@@ -119,7 +119,7 @@ counted l e =
 
 -- a range that fits lies in one of the windows that its rule allows, and there no sum reaches 2^64
 pub record Fitting (w : Windows) (address bytes : ℕ) : Type 0 where
-  pub one : OneHolds (listed w) address bytes
+  pub holder : OneHolds (listed w) address bytes
   pub below : address + bytes ≤ 2 ^ 48
 
 pub fits-one : (w : Windows) (address bytes : ℕ) → Sound (listed w) → 0 < bytes → fits w AnyWindow address bytes ≡ true
@@ -127,17 +127,17 @@ pub fits-one : (w : Windows) (address bytes : ℕ) → Sound (listed w) → 0 < 
 unfolding fits windowsWithin
 fits-one w a n s h e =
     let o = one-holds (listed w) a n h (s .apart) e in
-    record { one = o; below = omega (arith, o .holds .high, s .ends (o .which) (o .listed)) }
+    record { holder = o; below = omega (arith, o .holds .high, s .ends (o .which) (o .listed)) }
 
 -- a rule that allows one window
-only-one : {w : Window} (a n : ℕ) → some (λ v. holds v a n) (w ∷ []) ≡ true → Inside w a n
+single-holds : {w : Window} (a n : ℕ) → some (λ v. holds v a n) (w ∷ []) ≡ true → Inside w a n
 unfolding some
-only-one {w} a n e = inside w a n (⊎-elim (λ q. q) (λ q. absurd (never-both q refl)) (or-cases (holds w a n) false e))
+single-holds {w} a n e = inside w a n (⊎-elim (λ q. q) (λ q. absurd (never-both q refl)) (or-cases (holds w a n) false e))
 
 pub in-batch : (w : Windows) (address bytes : ℕ) → fits w BatchOnly address bytes ≡ true → Inside (w .batch) address bytes
 unfolding fits windowsWithin
-in-batch w a n e = only-one a n e
+in-batch w a n e = single-holds a n e
 
 pub in-scratch : (w : Windows) (address bytes : ℕ) → fits w ScratchOnly address bytes ≡ true → Inside (w .scratch) address bytes
 unfolding fits windowsWithin
-in-scratch w a n e = only-one a n e
+in-scratch w a n e = single-holds a n e

@@ -1,15 +1,14 @@
 -- A run is its first commands and then the run from where they lead.
 -- Assumes nothing.
-use Prim.Native.Nat.{ℕ, zero, suc, _+_}
+use Prim.Native.Nat.{ℕ, _+_}
 use native.Mathlib.Nat.{zero-add, suc-add}
-use mathlib.Core.Path.{_≡_, refl, sym, ap, _∙_}
+use mathlib.Core.Path.{_≡_, refl, ap}
 use mathlib.Core.List.{List, [], _∷_, _++_}
 use lib.ListN.{length}
 use Rattle.rules.specs.declared.Cursor.{Cursor}
 use Rattle.rules.specs.declared.Command.{Command}
 use Rattle.rules.specs.Windows.{Capture}
-use Rattle.rules.specs.Step.{stepOf}
-use Rattle.rules.specs.Walk.{Run, ended, then, trace, traceFrom, cut, Leads, stays, onward, commandsOf, endOf}
+use Rattle.rules.specs.Walk.{Run, then, trace, traceFrom, cut, Leads, stays, onward, commandsOf, endOf}
 
 -- a run with commands in front of it
 unfoldable pub follow : List Command → Run → Run

@@ -1,34 +1,32 @@
 -- What a command that is taken has passed: each of the checks 6 to 17, said of the command's own dwords.
 -- Assumes nothing.
-use Prim.Native.Nat.{ℕ, zero, suc, _+_, _≤_, _<_}
+use Prim.Native.Nat.{ℕ, _+_, _≤_, _<_}
 use native.Mathlib.Omega.{arith}
-use mathlib.Core.Path.{_≡_, refl, sym, ap, _∙_}
-use mathlib.Core.Bool.{Bool, true, false, not}
-use mathlib.Core.List.{List, [], _∷_}
+use mathlib.Core.Path.{_≡_, refl, ap}
+use mathlib.Core.Bool.{Bool, true, false}
 use lib.ListN.{length}
 use borrow.Author.Tests.{ltb-false, leb-false, not-false}
 use Rattle.rules.specs.declared.Cursor.{Cursor}
 use Rattle.rules.specs.declared.Command.{Command}
 use Rattle.rules.specs.declared.After.{After}
-use Rattle.rules.specs.declared.Outcome.{Outcome}
 use Rattle.rules.specs.declared.Outcome.the-variants.{Taken, Refused}
 use Rattle.rules.specs.declared.Found.the-variants.{Nothing}
 use Rattle.rules.specs.declared.Fault.{Fault}
 use Rattle.rules.specs.declared.Verdict.{Verdict}
 use Rattle.rules.specs.declared.Verdict.the-variants.{Pass, Fails}
 use Rattle.rules.specs.Words.{firstOf}
-use Rattle.rules.specs.Refusals.{firstFault, AllPass}
+use Rattle.rules.specs.Refusals.{firstFault}
 use Rattle.rules.specs.Windows.{Capture, windowsOf}
 use Rattle.rules.specs.Commands.{rowCount, lengthRight}
 use Rattle.rules.specs.Masks.{bitWrong}
 use Rattle.rules.specs.Values.{valueWrong}
 use Rattle.rules.specs.Addresses.{rangeWrong}
 use Rattle.rules.specs.Structures.{structureNowhere, structureBit, structureValue, structureChecks}
-use Rattle.rules.specs.Step.{Here, here, headerAt, rowAt, lengthAt, dwordsAt, pointerOf, nested, baseMissing, ofStructure}
+use Rattle.rules.specs.Step.{here, headerAt, rowAt, lengthAt, dwordsAt, pointerOf, nested, baseMissing, ofStructure}
 use Rattle.rules.specs.Step.{ranOff, unknownHeader, wrongLength, pastTheWindow, bitNotAllowed, nestedStart, valueBroken}
 use Rattle.rules.specs.Step.{rangeOutside, baseNeverSet, stepChecks, moveOf, commandAt, outcomeOf, stepOf}
 use Rattle.rules.proofs.Searching.{none-found}
-use Rattle.rules.proofs.Trying.{all-pass, no-fault, refuse-passes, search-clear, fails-not-pass}
+use Rattle.rules.proofs.Trying.{all-pass, refuse-passes, search-clear}
 
 -- what the walk does with a command that passes
 abbrev pub moveAt : Capture → Cursor → After
@@ -47,7 +45,7 @@ pub record Passed (c : Capture) (s : Cursor) : Type 0 where
   pub ranges : (k : ℕ) → k < lengthAt (c .batch) (s .at)
       → rangeWrong (windowsOf c) (rowAt (c .batch) (s .at)) (dwordsAt (c .batch) (s .at)) k ≡ false
   pub based : baseMissing (pointerOf (rowAt (c .batch) (s .at)) (dwordsAt (c .batch) (s .at))) (s .base) ≡ false
-  pub held : ofStructure structureNowhere (here c s) ≡ Pass
+  pub somewhere : ofStructure structureNowhere (here c s) ≡ Pass
   pub structureBits : ofStructure structureBit (here c s) ≡ Pass
   pub structureValues : ofStructure structureValue (here c s) ≡ Pass
 
@@ -63,7 +61,7 @@ taken-command e = cc
 taken-after : {k l : Command} {a b : After} → Taken k a ≡ Taken l b → b ≡ a
 taken-after e = cc
 
-pub never-taken : {f : Fault} {k : Command} {a : After} → Refused f ≡ Taken k a → ⊥
+never-taken : {f : Fault} {k : Command} {a : After} → Refused f ≡ Taken k a → ⊥
 never-taken e = let z : _≡_ {A = ℕ} 0 1 = cc in omega arith
 
 pub took : (c : Capture) (s : Cursor) {k : Command} {a : After} → stepOf c s ≡ Taken k a → Took c s k a
@@ -118,7 +116,7 @@ passed c s e =
       values = each-clear _ _ (search-clear _ _ _ _ (p .1 .1 .1 .1 .1 .1 .0));
       ranges = each-clear _ _ (search-clear _ _ _ _ (p .1 .1 .1 .1 .1 .1 .1 .0));
       based = refuse-passes _ _ (p .1 .1 .1 .1 .1 .1 .1 .1 .0);
-      held = p .1 .1 .1 .1 .1 .1 .1 .1 .1 .0;
+      somewhere = p .1 .1 .1 .1 .1 .1 .1 .1 .1 .0;
       structureBits = p .1 .1 .1 .1 .1 .1 .1 .1 .1 .1 .0;
       structureValues = p .1 .1 .1 .1 .1 .1 .1 .1 .1 .1 .1 .0;
     }

@@ -1,18 +1,17 @@
 -- Rules of the tables, each a test that antt computes over the whole table and a law that turns it into the rule at each entry.
 -- Assumes nothing.
-use Prim.Native.Nat.{ℕ, zero, suc, _+_, _/_, _%_, _^_, _≤_, _<_}
+use Prim.Native.Nat.{ℕ, zero, suc, _≤_, _<_}
 use native.Mathlib.Nat.{le-of-suc-le-suc, eq-or-lt-of-le}
 use native.Mathlib.Omega.{arith}
 use mathlib.Core.Path.{_≡_, refl, sym, ap, _∙_}
 use mathlib.Core.Bool.{Bool, true, false, cond, not, _&&_, _||_}
 use mathlib.Core.List.{List, [], _∷_}
-use mathlib.Core.Logic.{_⊎_, inl, inr, ⊎-elim}
+use mathlib.Core.Logic.{_⊎_, ⊎-elim}
 use lib.ListN.{length, getD}
-use lib.Dec.{leb, ltb, eqb}
+use lib.Dec.{leb, eqb}
 use borrow.Author.Tests.{leb-true, eqb-true, ne-eqb, lt-ltb, not-false}
 use Rattle.rules.specs.Words.{field, cleared, some}
 use Rattle.rules.specs.Commands.{Row, rows, rowCount, keyOf, rowFrom, rowOf, theRow}
-use Rattle.rules.specs.Masks.{headerMask, masksOf}
 use Rattle.rules.specs.Formats.{surfaceFormats, formatBits, blockBits, blockRule}
 use Rattle.rules.proofs.Searching.{some-left, some-right, or-cases, and-left, and-right}
 

@@ -1,13 +1,12 @@
 -- Each promise admits one answer only, and one content of every lent buffer.
 -- Assumes nothing.
-use Prim.Native.Nat.{ℕ, suc, _<_}
+use Prim.Native.Nat.{ℕ, _<_}
 use native.Mathlib.Omega.{arith}
-use mathlib.Core.Path.{_≡_, refl, sym, ap, _∙_}
-use mathlib.Core.List.{List, [], _∷_}
+use mathlib.Core.Path.{_≡_, refl, sym, _∙_}
+use mathlib.Core.List.{List}
 use lib.ListN.{length}
 use lib.Dec.{lit<}
 use Rattle.rules.specs.declared.Answer.{Answer}
-use Rattle.rules.specs.declared.Command.{Command}
 use Rattle.rules.specs.declared.Opened.{Opened}
 use Rattle.rules.specs.declared.Reason.{Reason}
 use Rattle.rules.specs.declared.Reason.the-variants.{WrongCounts, AddressUnaligned, EndsTooHigh, WindowsShare, BudgetSpent, RanOff}
@@ -20,7 +19,7 @@ use Rattle.rules.specs.Windows.{Capture}
 use Rattle.rules.specs.declared.Base.{Base}
 use Rattle.rules.specs.Refusals.{numberOf, answerWith}
 use Rattle.rules.specs.Walk.{Run, commandsOf, endOf, answerOf}
-use Rattle.rules.specs.Records.{Checked, wordsOf, wordsFor}
+use Rattle.rules.specs.Records.{Checked}
 use Rattle.rules.specs.File.{FileRead, Judged}
 
 pub one-check : {base : Base} {c : Capture} {old new new′ : List ℕ} {r r′ : Answer} → Checked base c old r new
@@ -36,12 +35,6 @@ pub one-judgement : {base : Base} {file batch state records b b′ s s′ w w′
     → (r ≡ r′) × (b ≡ b′) × (s ≡ s′) × (w ≡ w′)
 one-judgement p q =
     (p .answers ∙ sym (q .answers), p .batchFilled ∙ sym (q .batchFilled), p .stateFilled ∙ sym (q .stateFilled), p .written ∙ sym (q .written))
-
--- the words of records are as many as so many records take
-pub words-counted : (ks : List Command) → length (wordsOf ks) ≡ wordsFor (length ks)
-unfolding wordsOf
-words-counted [] = refl
-words-counted (k ∷ ks) = ap suc (words-counted ks)
 
 count-told : (v : Verdict) (n : ℕ) → answerWith v n .count ≡ n
 unfolding answerWith

@@ -5,7 +5,6 @@ use Prim.Native.Nat.{ℕ, zero, suc, _+_, _≤_, _<_}
 use native.Mathlib.Nat.{add-zero, zero-add}
 use native.Mathlib.Omega.{arith}
 use mathlib.Core.Path.{_≡_, refl, sym, ap, _∙_, subst}
-use mathlib.Core.Bool.{Bool, true, false}
 use mathlib.Core.List.{List, [], _∷_, _++_}
 use mathlib.Core.Logic.{_⊎_, inl, inr, ⊎-elim}
 use lib.ListN.{length, length-append}
@@ -20,12 +19,12 @@ use Rattle.rules.specs.declared.Outcome.the-variants.{Taken, Refused}
 use Rattle.rules.specs.declared.Fault.{Fault}
 use Rattle.rules.specs.declared.Verdict.{Verdict}
 use Rattle.rules.specs.declared.Verdict.the-variants.{Pass, Fails}
-use Rattle.rules.specs.Refusals.{tried, firstFault, AllPass, FirstFault}
+use Rattle.rules.specs.Refusals.{tried, firstFault, AllPass}
 use Rattle.rules.specs.Windows.{Capture, Lengths, lengthsOf, windowChecks, windowFault}
 use Rattle.rules.specs.Step.{Here, here, budget, spentAt, fullAt, budgetSpent, recordsFull, stepChecks, checks, commandAt, stepOf}
-use Rattle.rules.specs.Walk.{Run, ended, then, trace, traceFrom, cut, start, unless, walk, Leads, stays, onward, commandsOf, endOf, NoFault, Complete, WalkFault}
+use Rattle.rules.specs.Walk.{Run, ended, then, trace, traceFrom, cut, start, walk, Leads, stays, onward, commandsOf, endOf, NoFault, Complete, WalkFault}
 use Rattle.rules.proofs.Trying.{all-pass, first-fault, no-fault, stays-failed, tried-append, fails-not-pass, same-fault}
-use Rattle.rules.proofs.Stepping.{took, takes, refused-by, never-taken}
+use Rattle.rules.proofs.Stepping.{took, refused-by}
 
 -- the first fault of the checks 5 to 18 at a cursor, with n commands done and room for so many records
 abbrev pub faultAt : Capture → ℕ → ℕ → Cursor → Verdict

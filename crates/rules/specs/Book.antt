@@ -4,7 +4,7 @@ use lib.Ieee.{ofBits, nanBits, le}
 use Rattle.rules.specs.Words.{allowed, some, someTwo, firstFrom, inGroup}
 use Rattle.rules.specs.Refusals.{numberOf, tried, answerWith, told}
 use Rattle.rules.specs.Windows.{windowsOf, countsWrong, windowChecks, windowFault, holds, windowsWithin, fits, holdsDwords, heldAt, partOf}
-use Rattle.rules.specs.Commands.{rows, rowCount, theRow, keyOf, rowFrom, rowOf, lengthOf, groupSize, lengthRight}
+use Rattle.rules.specs.Commands.{rows, theRow, keyOf, rowFrom, rowOf, lengthOf, groupSize, lengthRight}
 use Rattle.rules.specs.Uses.{usesByRow, accessOf, accessAt, addressAt}
 use Rattle.rules.specs.Masks.{masksOf, allowedOf, allowedAt, bitWrong}
 use Rattle.rules.specs.Formats.{surfaceFormats, formatBits, knownTopology, knownRegister}
@@ -15,7 +15,7 @@ use Rattle.rules.specs.Structures.{structureValue, structureChecks, read
 use Rattle.rules.specs.Step.{dwordsAt, pointerOf, budgetSpent, ranOff, unknownHeader, wrongLength, pastTheWindow, bitNotAllowed, nestedStart, valueBroken}
 use Rattle.rules.specs.Step.{rangeOutside, baseNeverSet, recordsFull, stepChecks, checks, afterEnd, baseAfter, moveOf, commandAt, stepOf}
 use Rattle.rules.specs.Walk.{trace, cut, walk, commandsOf, endOf, answerOf}
-use Rattle.rules.specs.Records.{recordOf, commandOf, wordsOf, commandsIn, writtenOf}
+use Rattle.rules.specs.Records.{recordOf, commandOf, wordsOf, commandsIn, wordsFor, roomOf, writtenOf}
 
 -- no sentences of their own: the pages of document 01 up to "Capture file and printout", for whoever computes
 unfoldable pub windowsPage : ℕ
@@ -47,7 +47,7 @@ unfolding stepChecks checks afterEnd baseAfter moveOf commandAt stepOf trace cut
 walkPage = 0
 
 unfoldable pub recordsPage : ℕ
-unfolding recordOf commandOf wordsOf commandsIn writtenOf
+unfolding recordOf commandOf wordsOf commandsIn wordsFor roomOf writtenOf
 recordsPage = 0
 
 -- all of them

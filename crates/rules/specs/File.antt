@@ -13,7 +13,7 @@ use Rattle.rules.specs.declared.Verdict.the-variants.{Pass, Fails}
 use Rattle.rules.specs.declared.Reason.the-variants.{WrongCounts, FileSize, FileDistance, BufferShort}
 use Rattle.rules.specs.declared.Answer.{Answer}
 use Rattle.rules.specs.declared.Base.{Base}
-use Rattle.rules.specs.Refusals.{batchWindow, fault, refuseIf, firstFault, answerWith, Told, told}
+use Rattle.rules.specs.Refusals.{batchWindow, fault, refuseIf, firstFault, Told, told}
 use Rattle.rules.specs.Windows.{Capture, window, countsWrong}
 use Rattle.rules.specs.Walk.{Run, unless, walk, answerOf}
 use Rattle.rules.specs.Records.{roomOf, writtenOf}

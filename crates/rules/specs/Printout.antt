@@ -9,7 +9,7 @@ use lib.Dec.{ltb}
 use Rattle.rules.specs.declared.Command.{Command}
 use Rattle.rules.specs.declared.Answer.{Answer}
 use Rattle.rules.specs.Walk.{Run, commandsOf, answerOf}
-use Rattle.rules.specs.Records.{roomOf, wordsOf, commandOf, startingBase}
+use Rattle.rules.specs.Records.{roomOf, wordsOf, commandOf, commandsIn, startingBase}
 use Rattle.rules.specs.File.{fileLimit, trailerOf, fileChecks, openedOf, openedVerdict, dwordsFrom, batchDwords, stateDwords, fileCapture, fileRun}
 use Rattle.rules.specs.Book.{book}
 
@@ -41,13 +41,13 @@ abbrev pub recordLine : ℕ → List ℕ
 recordLine word = commandLine (commandOf word)
 
 -- "per record": a line for each
-unfoldable pub recordLines : List ℕ → List ℕ
-recordLines [] = []
-recordLines (word ∷ words) = recordLine word ++ recordLines words
+unfoldable pub commandLines : List Command → List ℕ
+commandLines [] = []
+commandLines (c ∷ cs) = commandLine c ++ commandLines cs
 
 -- "prints in decimal the answer, then index, level, row and length per record"
 unfoldable pub printout : Answer → List ℕ → List ℕ
-printout answer records = answerLine answer ++ recordLines records
+printout answer records = answerLine answer ++ commandLines (commandsIn records)
 
 -- "The program lends 4,096 record words"
 abbrev pub recordWords : ℕ
@@ -74,5 +74,5 @@ exampleFile =
 
 -- "For batch 00000000h, 05000000h": the document's own example, the file's bytes in and the three lines out
 pub the-example : printed exampleFile ≡ bytes "reason 0 window 0 index 0 commands 2\n0 0 0 1\n1 0 1 1\n"
-unfolding book trailerOf fileChecks openedOf openedVerdict dwordsFrom batchDwords stateDwords fileCapture fileRun digitsOf answerLine commandLine recordLines printout printed
+unfolding book trailerOf fileChecks openedOf openedVerdict dwordsFrom batchDwords stateDwords fileCapture fileRun digitsOf answerLine commandLine commandLines printout printed
 the-example = refl

@@ -1,5 +1,5 @@
 -- Document 01, the records: "A record is one word: index in bits 11:0, level in bit 12, total length in 23:16, table row in 31:24, others zero."
-use Prim.Native.Nat.{ℕ, _+_, _*_, _^_, _<_}
+use Prim.Native.Nat.{ℕ, _+_, _*_, _/_, _^_, _<_}
 use mathlib.Core.Path.{_≡_}
 use mathlib.Core.List.{List, [], _∷_, _++_}
 use lib.ListN.{length, drop}
@@ -36,13 +36,13 @@ unfoldable pub commandsIn : List ℕ → List Command
 commandsIn [] = []
 commandsIn (w ∷ ws) = commandOf w ∷ commandsIn ws
 
--- "A record is one word": how many records so many words have room for
-abbrev pub roomOf : ℕ → ℕ
-roomOf words = words
-
 -- "A record is one word": how many words so many records take
-abbrev pub wordsFor : ℕ → ℕ
+unfoldable pub wordsFor : ℕ → ℕ
 wordsFor records = records
+
+-- "record buffer full": how many records so many words have room for
+unfoldable pub roomOf : ℕ → ℕ
+roomOf words = words / wordsFor 1
 
 -- "that many records are written, each from the first free word of the lent record buffer onward (word 0 for the first), and the words after
 -- them stay"

@@ -75,13 +75,13 @@ unfoldable pub answerOf : Run → Answer
 answerOf run = answerWith (endOf run) (length (commandsOf run))
 
 -- 5 and 18 as the walk gives them are the checks of a command: 5 with the whole budget done, 18 with no room left
-pub one-5 : (c : Capture) (s : Cursor) (o : Outcome) → endOf (trace 0 c s o) ≡ budgetSpent budget (here c s)
+pub budget-spent-told : (c : Capture) (s : Cursor) (o : Outcome) → endOf (trace 0 c s o) ≡ budgetSpent budget (here c s)
 unfolding trace endOf budgetSpent
-one-5 c s o = refl
+budget-spent-told c s o = refl
 
-pub one-18 : (c : Capture) (s : Cursor) (rest : Run) → endOf (cut 0 (then (commandAt (c .batch) s) rest)) ≡ recordsFull 0 0 (here c s)
+pub records-full-told : (c : Capture) (s : Cursor) (rest : Run) → endOf (cut 0 (then (commandAt (c .batch) s) rest)) ≡ recordsFull 0 0 (here c s)
 unfolding cut endOf commandAt recordsFull
-one-18 c s rest = refl
+records-full-told c s rest = refl
 
 -- "Given exactly when", for acceptance: the windows are sound, and every check 5 to 18 passes at every command that the walk comes to
 pub record NoFault (base : Base) (c : Capture) (room : ℕ) : Type 0 where

@@ -94,7 +94,7 @@ groupless-tested : each (λ r. ltb 0 (groupSize r) || isOne (theRow r .total)) r
 unfolding each rows theRow groupSize isOne
 groupless-tested = refl
 
-pub groupless : (r header : ℕ) → r < rowCount → groupSize r ≡ 0 → lengthOf r header ≡ 1
+groupless : (r header : ℕ) → r < rowCount → groupSize r ≡ 0 → lengthOf r header ≡ 1
 unfolding lengthOf
 groupless r header h e =
     one-counted (theRow r .total) header

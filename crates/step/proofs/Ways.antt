@@ -4,7 +4,7 @@ use Prim.Native.Nat.{ℕ, _+_, _-_, _≤_, _<_}
 use native.Mathlib.Omega.{arith}
 use mathlib.Core.Path.{_≡_, refl, sym, ap, _∙_}
 use mathlib.Core.Bool.{Bool, true, false}
-use mathlib.Core.List.{List, [], _∷_}
+use mathlib.Core.List.{List, [], _∷_, _++_}
 use lib.ListN.{length, take, drop, length-drop}
 use lib.Dec.{ltb}
 use lib.Seq.{length-take-le}
@@ -28,7 +28,7 @@ use Rattle.looks.specs.declared.Look.the-variants.{Wrong}
 use Rattle.looks.proofs.LookLaws.{dwords-are, own-wrong, Looked}
 use Rattle.onward.specs.Onward.{moveFrom}
 use Rattle.step.specs.Parts.{captured, Fitted, structuralOf}
-use Rattle.step.proofs.Structural.{tried-or}
+use Rattle.step.proofs.Structural.{tried-in-order}
 
 -- the numbers of the windows are those of the capture
 pub fitted : {w : Windows} {batch state : List ℕ} → Fitted w batch state → windowsOf (captured w batch state) ≡ w
@@ -39,15 +39,16 @@ fitted {w} f = λ i. record {
   scratch = w .scratch;
 }
 
-joined : (a b c d e : Verdict) → orElse a (orElse b (orElse c (orElse d e))) ≡ orElse (orElse a (orElse b (orElse c d))) e
-joined (Fails f) b c d e = refl
-joined Pass (Fails f) c d e = refl
-joined Pass Pass (Fails f) d e = refl
-joined Pass Pass Pass d e = refl
+-- four verdicts and what is behind them: the four are one verdict
+regrouped : (a b c d e : Verdict) → orElse a (orElse b (orElse c (orElse d e))) ≡ orElse (orElse a (orElse b (orElse c d))) e
+regrouped (Fails f) b c d e = refl
+regrouped Pass (Fails f) c d e = refl
+regrouped Pass Pass (Fails f) d e = refl
+regrouped Pass Pass Pass d e = refl
 
 module _ (c : Capture) (s : Cursor) where
-  h : Here
-  h = here c s
+  command : Here
+  command = here c s
 
   -- 7 to 13 and 14 to 17, as the code has them
   abbrev pub own : Verdict
@@ -63,16 +64,16 @@ module _ (c : Capture) (s : Cursor) where
 
   -- 10 to 13 are of the command's dwords where 9 passes, and else not asked
   abbrev dwords : Verdict
-  dwords = orElse (bitNotAllowed h) (orElse (nestedStart h) (orElse (valueBroken h) (rangeOutside h)))
+  dwords = orElse (bitNotAllowed command) (orElse (nestedStart command) (orElse (valueBroken command) (rangeOutside command)))
 
   contents : s .at + lengthAt (c .batch) (s .at) ≤ length (c .batch)
       → dwords ≡ contentOf (windowsOf c) (rowAt (c .batch) (s .at)) (dwordsAt (c .batch) (s .at)) (s .at) (s .level)
-  unfolding h contentOf bitNotAllowed nestedStart valueBroken rangeOutside
+  unfolding command contentOf bitNotAllowed nestedStart valueBroken rangeOutside
   contents l = rw (counted l)
 
-  owns : orElse (unknownHeader h) (orElse (wrongLength h) (orElse (pastTheWindow h) dwords)) ≡ own
-  unfolding h ownOf unknownHeader wrongLength pastTheWindow
-  owns = ap (λ v. orElse (unknownHeader h) (orElse (wrongLength h) v)) (within (ltb (length (c .batch)) (s .at + lengthAt (c .batch) (s .at))) refl)
+  owns : orElse (unknownHeader command) (orElse (wrongLength command) (orElse (pastTheWindow command) dwords)) ≡ own
+  unfolding command ownOf unknownHeader wrongLength pastTheWindow
+  owns = ap (λ v. orElse (unknownHeader command) (orElse (wrongLength command) v)) (within (ltb (length (c .batch)) (s .at + lengthAt (c .batch) (s .at))) refl)
     where
       within : (t : Bool) → ltb (length (c .batch)) (s .at + lengthAt (c .batch) (s .at)) ≡ t
           → orElse (refuseIf t (fault PastTheWindow batchWindow (s .at))) dwords
@@ -81,43 +82,29 @@ module _ (c : Capture) (s : Cursor) where
       within true e = refl
       within false e = contents (ltb-false _ _ e)
 
-  structurals : orElse (baseNeverSet h) (orElse (ofStructure structureNowhere h) (orElse (ofStructure structureBit h) (ofStructure structureValue h))) ≡ structural
-  unfolding h structuralOf baseNeverSet
+  structurals : orElse (baseNeverSet command) (orElse (ofStructure structureNowhere command) (orElse (ofStructure structureBit command) (ofStructure structureValue command))) ≡ structural
+  unfolding command structuralOf baseNeverSet
   structurals = refl
 
-  -- four checks, tried in order
-  four : (k l m n : Here → Verdict) (rest : List (Here → Verdict))
-      → firstFault (k ∷ l ∷ m ∷ n ∷ rest) h ≡ orElse (k h) (orElse (l h) (orElse (m h) (orElse (n h) (firstFault rest h))))
-  four k l m n rest =
-      tried-or k (l ∷ m ∷ n ∷ rest) h
-      ∙ ap (orElse (k h)) (tried-or l (m ∷ n ∷ rest) h ∙ ap (orElse (l h)) (tried-or m (n ∷ rest) h ∙ ap (orElse (m h)) (tried-or n rest h)))
-
-  last-passes : (v : Verdict) → orElse v Pass ≡ v
-  last-passes Pass = refl
-  last-passes (Fails f) = refl
-
-  four-last : (k l m n : Here → Verdict) → firstFault (k ∷ l ∷ m ∷ n ∷ []) h ≡ orElse (k h) (orElse (l h) (orElse (m h) (n h)))
-  unfolding tried
-  four-last k l m n = four k l m n [] ∙ ap (λ v. orElse (k h) (orElse (l h) (orElse (m h) v))) (last-passes (n h))
-
   -- the three parts of a step: 6, 7 to 13, and 14 to 17
-  framed : firstFault stepChecks (here c s) ≡ orElse (ranOff h) (orElse own structural)
-  unfolding stepChecks structureChecks h
+  framed : firstFault stepChecks (here c s) ≡ orElse (ranOff command) (orElse own structural)
+  unfolding stepChecks structureChecks tried command
   framed =
-      let structure = baseNeverSet ∷ ofStructure structureNowhere ∷ ofStructure structureBit ∷ ofStructure structureValue ∷ [] in
-      four ranOff unknownHeader wrongLength pastTheWindow (bitNotAllowed ∷ nestedStart ∷ valueBroken ∷ rangeOutside ∷ structure)
-      ∙ ap (λ v. orElse (ranOff h) (orElse (unknownHeader h) (orElse (wrongLength h) (orElse (pastTheWindow h) v))))
-      (four bitNotAllowed nestedStart valueBroken rangeOutside structure
-      ∙ joined (bitNotAllowed h) (nestedStart h) (valueBroken h) (rangeOutside h) (firstFault structure h)
-      ∙ ap (orElse dwords) (four-last baseNeverSet (ofStructure structureNowhere) (ofStructure structureBit) (ofStructure structureValue) ∙ structurals))
-      ∙ ap (orElse (ranOff h)) (joined (unknownHeader h) (wrongLength h) (pastTheWindow h) dwords structural ∙ ap (λ v. orElse v structural) owns)
+      let dword-checks = bitNotAllowed ∷ nestedStart ∷ valueBroken ∷ rangeOutside ∷ [] in
+      let structure-checks = baseNeverSet ∷ ofStructure structureNowhere ∷ ofStructure structureBit ∷ [] in
+      let last = ofStructure structureValue ∷ [] in
+      tried-in-order (ranOff ∷ unknownHeader ∷ wrongLength ∷ pastTheWindow ∷ dword-checks) (structure-checks ++ last) command
+      ∙ ap (λ v. orElse (ranOff command) (orElse (unknownHeader command) (orElse (wrongLength command) (orElse (pastTheWindow command) v))))
+      (regrouped (bitNotAllowed command) (nestedStart command) (valueBroken command) (rangeOutside command) _
+      ∙ ap (orElse dwords) (tried-in-order structure-checks last command ∙ structurals))
+      ∙ ap (orElse (ranOff command)) (regrouped (unknownHeader command) (wrongLength command) (pastTheWindow command) dwords structural ∙ ap (λ v. orElse v structural) owns)
 
-  off : length (c .batch) ≤ s .at → ranOff h ≡ Fails (fault RanOff batchWindow (s .at))
-  unfolding h ranOff
+  off : length (c .batch) ≤ s .at → ranOff command ≡ Fails (fault RanOff batchWindow (s .at))
+  unfolding command ranOff
   off l = rw (le-leb _ _ l)
 
-  on : s .at < length (c .batch) → ranOff h ≡ Pass
-  unfolding h ranOff
+  on : s .at < length (c .batch) → ranOff command ≡ Pass
+  unfolding command ranOff
   on l = rw (lt-leb _ _ l)
 
   -- the ways out, in their order

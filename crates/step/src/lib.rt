@@ -1,6 +1,5 @@
 // One step of the walk: the checks 6 to 17 of the command at the cursor, and where it leads.
 ghost use mathlib.Core.Path.{_≡_};
-ghost use Prim.Native.Nat.{_≤_};
 ghost use lib.ListN.{length};
 ghost use Rattle.rules.specs.declared.Outcome.the-variants.{Refused};
 ghost use Rattle.rules.specs.Refusals.{fault, batchWindow};

@@ -53,15 +53,15 @@ module _ (d : List ℕ) where
   colour-at k h e f = simp (le-leb 2 k h, sym e, sym f)
 
   -- where no dword breaks a value rule, none of the values is a NaN
-  pub depth-is-one : (k : ℕ) {kind : Kind} → k < 2 → kind ≡ Viewport
+  pub depth-no-nan : (k : ℕ) {kind : Kind} → k < 2 → kind ≡ Viewport
       → firstOf (structureValueWrong kind d) (layoutOf kind .dwords) ≡ Nothing → isNan (getD d k 0) ≡ false
   unfolding layoutOf depthWrong structureValueWrong
-  depth-is-one k h v e =
+  depth-no-nan k h v e =
       some-left (isNan (getD d k 0)) _ (none-found (structureValueWrong Viewport d) 0 2 (rw v at e) k (omega arith) (omega arith))
 
-  pub colour-is-one : (k : ℕ) {kind : Kind} → 2 ≤ k → k < 6 → kind ≡ ColourCalc
+  pub colour-no-nan : (k : ℕ) {kind : Kind} → 2 ≤ k → k < 6 → kind ≡ ColourCalc
       → firstOf (structureValueWrong kind d) (layoutOf kind .dwords) ≡ Nothing → isNan (getD d k 0) ≡ false
   unfolding layoutOf structureValueWrong
-  colour-is-one k h l v e =
+  colour-no-nan k h l v e =
       sym (colour-at k h refl refl)
       ∙ none-found (structureValueWrong ColourCalc d) 0 6 (rw v at e) k (omega arith) (omega arith)

@@ -1,16 +1,14 @@
 -- The loop of `run`: the commands done, their words in the record buffer, and what the walk has still to give.
 -- Assumes nothing.
-use Prim.Native.Nat.{ℕ, zero, suc, _+_, _-_, _*_, _^_, _≤_, _<_}
+use Prim.Native.Nat.{ℕ, suc, _+_, _-_, _^_, _≤_, _<_}
 use native.Mathlib.Nat.{add-zero, sub-zero}
-use native.Mathlib.Numerals.{add-one}
 use native.Mathlib.Omega.{arith}
 use mathlib.Core.Path.{_≡_, refl, sym, ap, _∙_, subst}
 use mathlib.Core.Bool.{Bool, true, false, cond, _&&_}
-use mathlib.Core.List.{List, [], _∷_, _++_, append-assoc, append-nil}
+use mathlib.Core.List.{List, [], _∷_, _++_, append-nil}
 use mathlib.Core.Logic.{⊎-elim}
-use lib.ListN.{length, getD, drop, set, length-append, length-drop, length-set}
+use lib.ListN.{length, getD, drop, set, length-append}
 use lib.Dec.{eqb}
-use lib.Seq.{drop-cons, set-at}
 use borrow.Author.Tests.{eqb-true, eqb-false}
 use borrow.Rule.Slice.PartMut.{putMid, midOf, mid-len, set-mid-at}
 use Rattle.rules.specs.declared.Windows.{Windows}
@@ -33,9 +31,9 @@ use Rattle.rules.specs.Windows.{Capture, windowsOf, lengthsOf, windowFault, win
 use Rattle.rules.specs.Commands.{baseRow}
 use Rattle.rules.specs.Step.{budget, spentAt, fullAt, newBase, baseAfter, levelNumber, commandAt, stepOf}
 use Rattle.rules.specs.Walk.{Run, ended, then, trace, traceFrom, cut, start, commandsOf, endOf, answerOf}
-use Rattle.rules.specs.Records.{recordOf, wordsOf, roomOf, writtenOf, Checked}
+use Rattle.rules.specs.Records.{recordOf, wordsOf, wordsFor, roomOf, writtenOf, Checked}
 use Rattle.rules.proofs.Searching.{never-both}
-use Rattle.rules.proofs.Unique.{words-counted}
+use Rattle.rules.proofs.Listing.{words-counted, no-words, withRecord, record-added, with-record-long, room-is, record-put}
 use Rattle.rules.proofs.Running.{follow, commands-follow, end-follows}
 use Rattle.rules.proofs.Stepping.{took}
 use Rattle.rules.proofs.Walking.{walk-sound, walk-unsound}
@@ -49,14 +47,8 @@ use Rattle.walk.specs.Lent.{keptAt, stopFor, Ran}
 pub record SoFar (base : Base) (c : Capture) (old new : List ℕ) (n : ℕ) (r : Run) : Type 0 where
   pub done : List Command
   pub count : length done ≡ n
-  pub room : n ≤ roomOf (length old)
-  pub held : new ≡ wordsOf done ++ drop n old
+  pub stand : new ≡ wordsOf done ++ drop (wordsFor n) old
   pub gives : cut (roomOf (length old)) (traceFrom budget c (start base)) ≡ follow done r
-
-words-join : (ks ls : List Command) → wordsOf (ks ++ ls) ≡ wordsOf ks ++ wordsOf ls
-unfolding wordsOf
-words-join [] ls = refl
-words-join (k ∷ ks) ls = ap (λ l. recordOf k ∷ l) (words-join ks ls)
 
 follow-join : (ks ls : List Command) (r : Run) → follow (ks ++ ls) r ≡ follow ks (follow ls r)
 unfolding follow
@@ -69,21 +61,17 @@ pub ran : {base : Base} {c : Capture} {old new : List ℕ} {n : ℕ} {v : Verdic
 unfolding answerOf writtenOf commandsOf endOf
 ran {old = old} {n = n} {v = v} s = record {
   answers = rw (s .gives, end-follows (s .done) (ended v), commands-follow (s .done) (ended v), append-nil, s .count);
-  written = rw (s .gives, commands-follow (s .done) (ended v), append-nil, words-counted (s .done), s .count) (s .held);
+  written = rw (s .gives, commands-follow (s .done) (ended v), append-nil, words-counted (s .done), s .count) (s .stand);
 }
 
 -- one command more is done, and its record written
 pub wrote : {base : Base} {c : Capture} {old new : List ℕ} {n : ℕ} {k : Command} {r : Run} → SoFar base c old new n (then k r)
-    → n < roomOf (length old) → SoFar base c old (set new n (recordOf k)) (n + 1) r
-unfolding wordsOf follow
-wrote {old = old} {new = new} {n = n} {k = k} {r = r} s h = record {
+    → SoFar base c old (withRecord new n k) (n + 1) r
+unfolding follow
+wrote {old = old} {k = k} {r = r} s = record {
   done = s .done ++ (k ∷ []);
   count = length-append (s .done) (k ∷ []) ∙ ap (λ (m : ℕ). m + 1) (s .count);
-  room = omega arith;
-  held =
-      ap (λ (l : List ℕ). set l n (recordOf k)) (s .held ∙ ap (λ (l : List ℕ). wordsOf (s .done) ++ l) (drop-cons old n 0 h))
-      ∙ set-at (wordsOf (s .done)) (getD old n 0) (drop (suc n) old) (recordOf k) n (words-counted (s .done) ∙ s .count)
-      ∙ rw (words-join (s .done) (k ∷ []), append-assoc, add-one);
+  stand = rw (s .stand) (record-added (s .done) k old (s .count));
   gives = s .gives ∙ sym (follow-join (s .done) (k ∷ []) r);
 }
 
@@ -137,8 +125,7 @@ begun base c old m = record {
   so-far = record {
     done = [];
     count = refl;
-    room = omega arith;
-    held = refl;
+    stand = rw no-words;
     gives = ap (λ (k : ℕ). cut k (traceFrom budget c (start base))) (sym (sub-zero (roomOf (length old))));
   };
 }
@@ -162,11 +149,11 @@ module _ {base : Base} {c : Capture} {old new : List ℕ} {n : ℕ} {s : Cursor}
   unfolding trace cut
   refused h e = ran (rw (left budget n h, e) at (g .so-far))
 
-  no-room : {k : Command} (a : After) → n < budget → length new ≤ n → stepOf c s ≡ Taken k a
+  no-room : {k : Command} (a : After) → n < budget → roomOf (length old) ≤ n → stepOf c s ≡ Taken k a
       → SoFar base c old new n (ended (Fails (fullAt (k .index))))
   unfolding trace cut
-  no-room Ends h l e = rw (left budget n h, none-left (roomOf (length old)) n (omega (arith, g .same)), e) at (g .so-far)
-  no-room (To t) h l e = rw (left budget n h, none-left (roomOf (length old)) n (omega (arith, g .same)), e) at (g .so-far)
+  no-room Ends h l e = rw (left budget n h, none-left (roomOf (length old)) n l, e) at (g .so-far)
+  no-room (To t) h l e = rw (left budget n h, none-left (roomOf (length old)) n l, e) at (g .so-far)
 
   index-is : {k : Command} {a : After} → stepOf c s ≡ Taken k a → k .index ≡ s .at
   unfolding commandAt
@@ -176,26 +163,24 @@ module _ {base : Base} {c : Capture} {old new : List ℕ} {n : ℕ} {s : Cursor}
   unfolding commandAt
   level-is e = ap (λ (k : Command). k .level) (sym (took c s e .command))
 
-  pub full : {k : Command} {a : After} → n < budget → length new ≤ n → stepOf c s ≡ Taken k a
+  pub full : {k : Command} {a : After} → n < budget → roomOf (length old) ≤ n → stepOf c s ≡ Taken k a
       → Ran base c old (answerWith (Fails (fullAt (s .at))) n) new
   full {a = a} h l e = rw (← index-is e) (ran (no-room a h l e))
 
-  pub last : {k : Command} → n < budget → n < length new → stepOf c s ≡ Taken k Ends
-      → Ran base c old (answerWith Pass (n + 1)) (set new n (recordOf k))
+  pub last : {k : Command} → n < budget → n < roomOf (length old) → stepOf c s ≡ Taken k Ends
+      → Ran base c old (answerWith Pass (n + 1)) (withRecord new n k)
   unfolding trace cut
-  last h l e =
-      let z : n < roomOf (length old) = omega (arith, g .same) in
-      ran (wrote (rw (left budget n h, left (roomOf (length old)) n z, e) at (g .so-far)) z)
+  last h l e = ran (wrote (rw (left budget n h, left (roomOf (length old)) n l, e) at (g .so-far)))
 
-  pub next : {k : Command} {t : Cursor} → n < budget → n < length new → stepOf c s ≡ Taken k (To t)
-      → Going base c old (set new n (recordOf k)) (n + 1) t
+  pub next : {k : Command} {t : Cursor} → n < budget → n < roomOf (length old) → stepOf c s ≡ Taken k (To t)
+      → Going base c old (withRecord new n k) (n + 1) t
   unfolding trace cut
-  next h l e = let z : n < roomOf (length old) = omega (arith, g .same) in record {
+  next h l e = record {
     budgeted = omega arith;
     small = small-next c s (g .small) e;
     within = stays-within c s (g .within) e;
-    same = length-set new n _ ∙ g .same;
-    so-far = wrote (rw (left budget n h, left (roomOf (length old)) n z, e) at (g .so-far)) z;
+    same = with-record-long new _ (omega (arith, ap roomOf (g .same))) ∙ g .same;
+    so-far = wrote (rw (left budget n h, left (roomOf (length old)) n l, e) at (g .so-far));
   }
 
   -- a command that is not taken stops the run: for the budget, where that is spent, and else for its own fault
@@ -210,20 +195,20 @@ module _ {base : Base} {c : Capture} {old new : List ℕ} {n : ℕ} {s : Cursor}
 -- the room for records is what the buffer has, or the budget
 module _ {base : Base} {c : Capture} {old new : List ℕ} {n : ℕ} {s : Cursor} (g : Going base c old new n s) {room : ℕ}
     (m : (room ≤ roomOf (length old)) × (room ≤ budget) × (room < budget → room ≡ roomOf (length old))) where
-  pub none-left-there : n ≡ room → n < budget → length new ≤ n
-  none-left-there e h = let z = m .2 (omega arith) in omega (arith, g .same)
+  pub none-left-there : n ≡ room → n < budget → roomOf (length old) ≤ n
+  none-left-there e h = let z = m .2 (omega arith) in omega arith
 
-  pub some-left : n ≤ room → (n ≡ room → ⊥) → (n < budget) × (n < length new) × (n < room)
+  pub some-left : n ≤ room → (n ≡ room → ⊥) → (n < budget) × (n < roomOf (length old)) × (n < length new) × (n < room)
   some-left l e =
       let z : n < room = omega arith in
-      (omega (arith, m .1), omega (arith, m .0, g .same), z)
+      (omega (arith, m .1), omega (arith, m .0), omega (arith, m .0, g .same, room-is (length old)), z)
 
--- a write to the first word of the tail from n on is a write at n
-pub tail-written : (n v : ℕ) (l : List ℕ) → n < length l
-    → putMid n (length l - n) l (set (midOf n (length l - n) l) 0 v) ≡ set l n v
-tail-written n v l h =
+-- a write to the first word of the tail from n on is the record of one command more, behind n
+pub tail-written : (n : ℕ) (k : Command) (l : List ℕ) → n < length l
+    → putMid n (length l - n) l (set (midOf n (length l - n) l) 0 (recordOf k)) ≡ withRecord l n k
+tail-written n k l h =
     let z : 0 < length (midOf n (length l - n) l) = simp (mid-len n (length l) l (omega arith)) (omega arith) in
-    rw (set-mid-at n (length l - n) 0 l v z, add-zero)
+    rw (set-mid-at n (length l - n) 0 l (recordOf k) z, add-zero) (record-put l n k (omega (arith, room-is (length l))))
 
 -- the places that are answered fit 32 bits
 module _ {base : Base} {c : Capture} {old new : List ℕ} {n : ℕ} {s : Cursor} (g : Going base c old new n s) where

@@ -7,7 +7,7 @@ ghost use Rattle.rules.specs.Refusals.{answerWith};
 ghost use Rattle.rules.specs.Windows.{windowLimit, windowsOf};
 ghost use Rattle.rules.specs.Step.{budget, spentAt, fullAt};
 ghost use Rattle.rules.specs.Walk.{start};
-ghost use Rattle.rules.specs.Records.{startingBase, Checked};
+ghost use Rattle.rules.specs.Records.{startingBase, roomOf, Checked};
 ghost use Rattle.step.specs.Parts.{captured, Fitted, SmallBase};
 ghost use Rattle.walk.specs.Lent.{lentCapture, stopFor, Ran};
 use answers::acceptance;
@@ -94,7 +94,7 @@ fn started(base: Base) -> Cursor
 
 // How many commands can be recorded: as many as there is room for, and no more than the budget. So the walk tests one number for both.
 fn room_in(len: usize) -> usize
-    ensures { λ r. ⌜ (r ≤ len) × (r ≤ budget) × (r < budget → r ≡ len) ⌝ }
+    ensures { λ r. ⌜ (r ≤ roomOf len) × (r ≤ budget) × (r < budget → r ≡ roomOf len) ⌝ }
 {
     if len < BUDGET { len } else { BUDGET }
 }

@@ -6,7 +6,7 @@ use mathlib.Core.Bool.{Bool, true, false}
 use borrow.Author.Tests.{leb-true, le-leb}
 use lib.Dec.{leb}
 
-pub same-test : (a b : Bool) → (a ≡ true → b ≡ true) → (b ≡ true → a ≡ true) → a ≡ b
+same-test : (a b : Bool) → (a ≡ true → b ≡ true) → (b ≡ true → a ≡ true) → a ≡ b
 same-test true b to from = sym (to refl)
 same-test false true to from = from refl
 same-test false false to from = refl

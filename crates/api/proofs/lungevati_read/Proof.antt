@@ -1,7 +1,7 @@
 -- `api::lungevati_read` keeps the reader's promise, its answer as numbers.
 -- Assumes nothing.
 use mathlib.Core.Path.{ap, _∙_}
-use Rattle.api.specs.Read.{Small, flatOf}
+use Rattle.api.specs.Read.{flatOf}
 use Rattle.api.proofs.Smallness.{small}
 use borrow.Author.Needs.{needs}
 use denote.Ref.{now}

@@ -8,7 +8,7 @@ use borrow.Author.Needs.{needs}
 use denote.Ref.{now}
 use Rattle.rules.specs.declared.Opened.the-variants.{Holds}
 use Rattle.rules.specs.File.{FileRead, trailerOf}
-use Rattle.capture.proofs.Reading.{Held, held}
+use Rattle.capture.proofs.Reading.{FileHolds, file-holds}
 use Rattle.capture.proofs.Judging.{known, not-read, read-and-checked}
 use Rattle.capture.proofs.judge.Statement.{statement}
 use Rattle.capture.proofs.judge.Tie as tie
@@ -27,8 +27,8 @@ was-read c = known (called c .read .ensures) (c .contents .given .1)
 
 -- and what the file has shown by it
 shown : (c : tie.After-contents) → (let a = start (called c) .args in
-    Held (now (a .file)) (length (now (a .batch))) (length (now (a .state))) (c .contents .given .0 .0))
-shown c = held _ _ _ (sym (was-read c .answers))
+    FileHolds (now (a .file)) (length (now (a .batch))) (length (now (a .state))) (c .contents .given .0 .0))
+shown c = file-holds _ _ _ (sym (was-read c .answers))
 
 returns : tie.Need-returns
 returns c =

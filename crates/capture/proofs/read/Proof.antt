@@ -8,7 +8,7 @@ use borrow.Author.Needs.{needs}
 use denote.Ref.{now}
 use Rattle.rules.specs.File.{openedOf}
 use Rattle.rules.specs.declared.Opened.the-variants.{Holds}
-use Rattle.capture.proofs.Reading.{Held, held, left-alone, filled-in}
+use Rattle.capture.proofs.Reading.{FileHolds, file-holds, left-alone, filled-in}
 use Rattle.capture.proofs.read.Statement.{statement}
 use Rattle.capture.proofs.read.Tie as tie
 
@@ -21,8 +21,8 @@ holds : (c : tie.After-contents) → (let a = start c .args in
 holds c = sym (c .before .before .examine .ensures) ∙ c .contents .given .1
 
 shown : (c : tie.After-contents) → (let a = start c .args in
-    Held (now (a .file)) (length (now (a .batch))) (length (now (a .state))) (c .contents .given .0 .0))
-shown c = held _ _ _ (holds c)
+    FileHolds (now (a .file)) (length (now (a .batch))) (length (now (a .state))) (c .contents .given .0 .0))
+shown c = file-holds _ _ _ (holds c)
 
 returns : tie.Need-returns
 returns c = left-alone (sym (c .before .before .before .examine .ensures) ∙ c .before .reason .given .1)

@@ -1,9 +1,7 @@
 -- `search::wrong_at` meets its contract, by what is looked for.
 -- Assumes nothing.
-use mathlib.Core.Path.{_≡_, ap, _∙_}
-use Prim.Native.Nat.{ℕ}
+use mathlib.Core.Path.{ap}
 use mathlib.Core.Bool.{not}
-use lib.ListN.{getD}
 use Rattle.rules.specs.Words.{allowed}
 use Rattle.search.specs.Search.{wrongAt}
 use borrow.Author.Needs.{needs}

@@ -1,6 +1,5 @@
 -- `structures::first_bit` meets its contract: each row of the table has its structure's masks.
 -- Assumes nothing.
-use mathlib.Core.Path.{_∙_}
 use Rattle.rules.specs.Structures.{layoutOf, structureMask, structureBitWrong}
 use Rattle.structures.specs.Table.{outside}
 use borrow.Author.Needs.{needs}

@@ -1,6 +1,5 @@
 -- `structures::in_group` meets its contract: the leading dword is the first, and the group behind it has one.
 -- Assumes nothing.
-use mathlib.Core.Path.{_≡_, sym}
 use native.Mathlib.Omega.{arith}
 use borrow.Author.Tests.{ne-eqb}
 use Rattle.rules.specs.Words.{inGroup}

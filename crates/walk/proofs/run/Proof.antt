@@ -15,7 +15,7 @@ use Rattle.rules.specs.Formats.{surfaceFormats}
 use Rattle.rules.specs.Walk as walk
 use Rattle.rules.specs.Windows.{Capture}
 use Rattle.rules.specs.Step.{budget, levelNumber, stepOf}
-use Rattle.rules.specs.Records.{Recordable}
+use Rattle.rules.specs.Records.{Recordable, roomOf}
 use Rattle.rules.proofs.Recording.{fits-record}
 use Rattle.step.specs.Parts.{captured}
 use Rattle.walk.proofs.Looping.{Going, started, from-start, stops, refused, full, last, next, none-left-there, some-left, level-is}
@@ -80,8 +80,8 @@ took-then c e = took c ∙ ap (Taken (c .command .given .0 .0)) e
 
 -- there is budget and room for one command more
 room-left : (c : tie.Else1 Inv-loop μ-loop)
-    → (head c .loop .n < budget) × (head c .loop .n < length (head c .loop .records))
-    × (head c .loop .n < counted (head c) .room-in .result)
+    → (head c .loop .n < budget) × (head c .loop .n < roomOf (length (now (start (counted (head c)) .args .records))))
+    × (head c .loop .n < length (head c .loop .records)) × (head c .loop .n < counted (head c) .room-in .result)
 room-left c =
     let l = head c in
     some-left (l .loop .inv .0) (counted l .room-in .ensures) (l .loop .inv .1) (c .if1 .left)
@@ -140,7 +140,7 @@ returns-3 c =
     let left = room-left room in
     let l = head room in
     let written = c .before .before .before in
-    rw (c .acceptance .ensures, written .write-record .ensures, tail-written _ _ _ (left .1), written .before .record-of .ensures)
+    rw (c .acceptance .ensures, written .write-record .ensures, written .before .record-of .ensures, tail-written _ _ _ (left .2))
     (from-start (at-start (begun l))
     (last (l .loop .inv .0) (left .0) (left .1) (took-then (command room) (told .enum-told .given .1))))
 
@@ -154,7 +154,7 @@ loop-again c =
     let to = took-then (command room) (after .after .given .1 ∙ ap To (sym (c .turn-at2 .ensures .0))) in
     let going = next (l .loop .inv .0) (left .0) (left .1) to in
     let wrote = written .write-record2 .ensures in
-    (rw (wrote, tail-written _ _ _ (left .1), written .before .record-of2 .ensures) going, omega (arith, left .2), c .turn-at2 .ensures .1)
+    (rw (wrote, written .before .record-of2 .ensures, tail-written _ _ _ (left .2)) going, omega (arith, left .3), c .turn-at2 .ensures .1)
 
 pub run-spec : {M : Type 1} → statement M
 run-spec =

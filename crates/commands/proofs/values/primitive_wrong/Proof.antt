@@ -28,14 +28,14 @@ by-bit c =
 zero-there : tie.Need-returns-4
 zero-there c = simp (eq-eqb _ _ (c .if4 .taken), ne-eqb _ _ (c .before .if2 .left), and-false)
 
-third : tie.Need-returns-5
-third c =
+third-dword : tie.Need-returns-5
+third-dword c =
     let behind = c .before .before in
     let asked = behind .before in
     simp (eq-eqb _ _ (c .if5 .taken), ne-eqb _ _ (c .before .if4 .left), ne-eqb _ _ (behind .if2 .left), eq-eqb _ _ (asked .if1 .left), ← asked .before .dword .ensures)
 
-fifth : tie.Need-returns-6
-fifth c =
+fifth-dword : tie.Need-returns-6
+fifth-dword c =
     let some = c .before .before in
     let behind = some .before in
     let asked = behind .before in
@@ -48,8 +48,8 @@ fifth c =
       ← asked .before .dword .ensures,
     )
 
-sixth : tie.Need-returns-7
-sixth c =
+sixth-dword : tie.Need-returns-7
+sixth-dword c =
     let asked = c .before .before .before .before in
     let dword = asked .before in
     let a = dword .before .before .args in
@@ -58,4 +58,4 @@ sixth c =
 
 pub primitive-wrong-spec : {M : Type 1} → statement M
 primitive-wrong-spec =
-    tie.close (tie.spec (λ c κs. search needs) unasked (λ c κs. search needs) by-header by-bit zero-there third fifth sixth)
+    tie.close (tie.spec (λ c κs. search needs) unasked (λ c κs. search needs) by-header by-bit zero-there third-dword fifth-dword sixth-dword)
