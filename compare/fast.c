@@ -30,7 +30,7 @@ static const uint64_t NEVER_SET = (uint64_t)1 << 63; /* no base: no window reach
 #define RARELY(x) __builtin_expect(!!(x), 0)
 
 struct window {
-    uint64_t at, bytes;
+    uint64_t at, bytes, fours, eights; /* its length in bytes, and in whole words of four and of eight */
 };
 
 struct windows {
@@ -252,8 +252,8 @@ APART verdict careful(const struct windows *w, const struct place *p)
  * A word of 4 or 8 bytes in a window, aligned: turned by so many bits, the offset of one that is not aligned is past any window,
  * as it is for one below it. A window ends at or below 2^48, so that the high dword is in its mask too.
  */
-QUICK int holds_4(const struct window *w, uint64_t address) { return turned_64(address - w->at, 2) < w->bytes / 4; }
-QUICK int holds_8(const struct window *w, uint64_t address) { return turned_64(address - w->at, 3) < w->bytes / 8; }
+QUICK int holds_4(const struct window *w, uint64_t address) { return turned_64(address - w->at, 2) < w->fours; }
+QUICK int holds_8(const struct window *w, uint64_t address) { return turned_64(address - w->at, 3) < w->eights; }
 
 QUICK int quick_load_reg(const struct windows *w, const uint32_t *cmd)
 {
@@ -293,14 +293,27 @@ APART int range_elsewhere(const struct windows *w, const uint32_t *low, int used
  */
 QUICK uint64_t buffer_bits(uint64_t word) { return ((word + 0x7C0007FF) | word) & (0x100000000 | 0x03809000 | 0x6000); }
 
-QUICK int quick_vertex_buffers(const struct windows *w, const uint32_t *cmd, const uint32_t *end)
+/* From the first vertex buffer on that is not in use, or not in scratch. */
+APART int vertex_buffers_elsewhere(const struct windows *w, const uint32_t *group, const uint32_t *end)
 {
-    for (const uint32_t *group = cmd + 1; group < end; group += 4) {
+    for (; group < end; group += 4) {
         uint64_t bits = buffer_bits(group[0]);
-        if (LIKELY(bits == 0x4000 && quick_range(w, group + 1))) continue;
         if (bits & ~(uint64_t)0x6000 || !range_elsewhere(w, group + 1, bits == 0x4000)) return 0;
     }
     return 1;
+}
+
+APART int quick_vertex_buffers(const struct windows *w, const uint32_t *cmd, const uint32_t *end)
+{
+    const uint64_t scratch_at = w->scratch.at, scratch_bytes = w->scratch.bytes;
+    for (const uint32_t *group = cmd + 1;;) {
+        uint64_t offset = address_of(group + 1) - scratch_at;
+        if (buffer_bits(group[0]) != 0x4000) return vertex_buffers_elsewhere(w, group, end);
+        if (offset >= scratch_bytes) return vertex_buffers_elsewhere(w, group, end);
+        if (group[3] > scratch_bytes - offset) return vertex_buffers_elsewhere(w, group, end);
+        group += 4;
+        if (group == end) return 1;
+    }
 }
 
 /* What is wrong with the second dwords of four elements, as bits: mask, each control at most 4, the first not 0, no gap. */
@@ -318,25 +331,32 @@ QUICK four indices_wrong_in(four words)
     return (four)above | (words & same(0x7000));
 }
 
-QUICK uint8_t format_of(uint32_t word) { return format_known[word >> 16 & 0x1FF]; }
-
-QUICK int quick_vertex_elements(const uint32_t *cmd, const uint32_t *end)
+/* Four elements: adds what is wrong with their dwords to `wrong`, and says whether their formats are known. */
+QUICK uint8_t look_at_four(const uint32_t *g, four *wrong)
 {
-    const uint32_t *g = cmd + 1;
+    four a = load(g), b = load(g + 4), first = __builtin_shufflevector(a, b, 0, 2, 4, 6);
+    eight formats = (eight)(first & same(0x01FF0000));
+    *wrong |= indices_wrong_in(first) | components_wrong_in(__builtin_shufflevector(a, b, 1, 3, 5, 7));
+    return format_known[formats[1]] & format_known[formats[3]] & format_known[formats[5]] & format_known[formats[7]];
+}
+
+/* The last four may have been looked at before. */
+APART int quick_vertex_elements(const uint32_t *cmd, const uint32_t *end)
+{
+    const uint32_t *g = cmd + 1, *last = end - 8;
     four wrong = same(0);
     uint8_t known = 1;
-    for (; end - g >= 8; g += 8) {
-        four a = load(g), b = load(g + 4);
-        wrong |= indices_wrong_in(__builtin_shufflevector(a, b, 0, 2, 4, 6));
-        wrong |= components_wrong_in(__builtin_shufflevector(a, b, 1, 3, 5, 7));
-        known &= format_of(g[0]) & format_of(g[2]) & format_of(g[4]) & format_of(g[6]);
+    if (last >= g) {
+        for (; g < last; g += 8) known &= look_at_four(g, &wrong);
+        known &= look_at_four(last, &wrong);
+        return known && all_zero(wrong);
     }
     for (; g < end; g += 2) {
         uint32_t used = g[1] + 0x77770000, bits = (g[1] + 0x33330000) | (used << 4 & ~used) | (~used & 0x80000000);
-        if (g[0] >= 33u << 26 || g[0] & 0x7000 || g[1] & ~0x77770000u || bits & 0x88880000) return 0;
-        known &= format_of(g[0]);
+        if (g[0] >= 33u << 26 || g[0] & 0x7000 || (g[1] & ~0x77770000u) | (bits & 0x88880000)) return 0;
+        if (!format_known[g[0] >> 16 & 0x1FF]) return 0;
     }
-    return known && all_zero(wrong);
+    return 1;
 }
 
 /* Which of eight registers are known, as words of 16 bits: what does not fit one has become 7FFFh or 8000h, which are none. */
@@ -348,7 +368,7 @@ QUICK eight registers_known_in(eight r)
                    ((r & EACH(~0x7C)) == EACH(0x2600)));
 }
 
-QUICK int quick_load_imm(const uint32_t *cmd, const uint32_t *end)
+APART int quick_load_imm(const uint32_t *cmd, const uint32_t *end)
 {
     const uint32_t *pairs = cmd + 1;
     for (; end - pairs >= 16; pairs += 16) {
@@ -407,109 +427,154 @@ APART struct lungevati_answer refused(verdict v, uint64_t at, uint64_t count)
     return answer(v < GOOD ? v : fault(FULL, at), count);
 }
 
-/* A slot of its own for the upper half of each header but a no-op's: or the switch would have a case twice. */
-#define HASH(upper) ((uint32_t)((upper) * 0x29606599u) >> 27)
-
-/* Goes to the careful look if the condition does not hold. */
-#define NEED(condition) if (RARELY(!(condition))) break
-#define TAKE(row, length) { *out++ = (uint32_t)at + level + ((row) << 24 | (length) << 16); at += (length); continue; }
-/* A command with this header and length, that is good. */
-#define CASE(header_, row, length, condition) \
-    case HASH((header_) >> 16): NEED(header == (header_) && at + (length) <= count && (condition)); TAKE(row, length)
-/* The same in groups: the field is a multiple of `group`, less 1, and at most `most`. */
-#define GROUPS(key, row, group, most, condition) \
-    case HASH((key) >> 16): \
-        field = header ^ (key); \
-        NEED(field <= (most) && field % (group) == (group) - 1 && at + field + 2 <= count && (condition)); \
-        TAKE(row, field + 2)
-
-/* From a second no-op in a row on, sixteen at a time while there are so many and room for them; the number that were recorded. */
-QUICK uint64_t noops(const uint32_t *cmd, uint32_t *out, uint64_t most, uint32_t record)
+/*
+ * From a second no-op in a row on, sixteen at a time while there are so many, and room for them. `record` is the first one's; gives
+ * back how many were recorded.
+ */
+APART uint64_t noops(const uint32_t *cmd, uint32_t *out, uint64_t most, uint32_t record)
 {
     uint64_t n = 0;
-    four next = (four){record, record + 1, record + 2, record + 3};
-    for (; n + 16 <= most; n += 16, next += same(16)) {
+    four a = (four){record, record + 1, record + 2, record + 3}, b = a + same(4), c = a + same(8), d = a + same(12);
+    for (; n + 16 <= most; n += 16) {
         if (!all_zero((load(cmd + n) | load(cmd + n + 4) | load(cmd + n + 8) | load(cmd + n + 12)) >> 22)) break;
-        for (uint32_t i = 0; i < 16; i += 4) store(out + n + i, next + same(i));
+        store(out + n, a), store(out + n + 4, b), store(out + n + 8, c), store(out + n + 12, d);
+        a += same(16), b += same(16), c += same(16), d += same(16);
     }
     for (; n < most && cmd[n] >> 22 == 0; n++) out[n] = record + (uint32_t)n;
     return n;
 }
 
-static struct lungevati_answer walk(const struct windows *w, uint32_t *records, size_t room)
-{
-    uint32_t *out = records, *full = records + (room < BUDGET ? room : BUDGET);
-    const uint32_t *batch = w->words[0];
-    uint64_t at = 0, kept = 0, base = NEVER_SET, count = w->batch_count, n;
-    uint32_t level = 0, header, field;
+/* The two upper bytes of a header: no two rows have the same sum, but for no-ops with a number of their own. */
+#define HASH(header) (((header) >> 24) + ((header) >> 16 & 0xFF))
+#define DWORD(k) (*(const uint32_t *)(from + 4 * (at + (k))))
+#define BYTE(k) (*(const uint8_t *)(from + 4 * at + (k)))
+#define COMMAND ((const uint32_t *)(from + 4 * at))
 
-    for (;;) {
-        if (RARELY(at == count || out == full)) goto look;
-        header = batch[at];
-        if (header >> 22 == 0) {
-            *out++ = (uint32_t)at++ + level + (1 << 16);
-            if (RARELY(at == count || out == full)) goto look;
-            header = batch[at];
-            if (header >> 22 == 0) {
-                uint64_t left = count - at, space = (uint64_t)(full - out);
-                n = noops(batch + at, out, left < space ? left : space, (uint32_t)at + level + (1 << 16));
-                at += n, out += n;
-                continue;
-            }
-        }
-        const uint32_t *cmd = batch + at;
-        switch (HASH(header >> 16)) {
-        case HASH(0x0500):
-            NEED(header == 0x05000000);
-            *out++ = (uint32_t)at + level + (BATCH_END << 24 | 1 << 16);
-            if (level == 0) return answer(0, (uint64_t)(out - records));
-            at = kept, level = 0;
-            continue;
-        case HASH(0x1880): case HASH(0x18C0):
-            NEED((header & ~0x00400000u) == 0x18800101 && at + 3 <= count && level == 0);
-            n = turned_64(address_of(cmd + 1) - w->batch.at, 2);
-            NEED(n < count);
-            *out++ = (uint32_t)at + (BATCH_START << 24 | 3 << 16);
-            if (header & 0x00400000) kept = at + 3, level = LEVEL_1;
-            at = n;
-            continue;
-        GROUPS(0x11000000, LOAD_IMM, 2, 127, quick_load_imm(cmd, cmd + field + 2))
-        CASE(0x10000002, STORE_IMM, 4, holds_4(&w->scratch, address_of(cmd + 1)))
-        CASE(0x10200003, STORE_IMM, 5, holds_8(&w->scratch, address_of(cmd + 1)))
-        CASE(0x12000002, STORE_REG, 4, register_known(cmd[1]) && holds_4(&w->scratch, address_of(cmd + 2)))
-        CASE(0x14800002, LOAD_REG, 4, quick_load_reg(w, cmd))
-        CASE(0x7A000004, PIPE_CONTROL, 6, quick_pipe_control(w, cmd))
-        CASE(0x69040000, PIPELINE_SELECT, 1, 1)
-        case HASH(0x6101):
-            NEED(header == 0x6101000E && at + 16 <= count && quick_base_address(cmd));
-            if (cmd[6] & 1) base = address_of(cmd + 6) & ~(uint64_t)0xFFF;
-            TAKE(BASE_ADDRESS, 16)
-        GROUPS(0x78080000, VERTEX_BUFFERS, 4, 131, quick_vertex_buffers(w, cmd, cmd + field + 2))
-        GROUPS(0x78090000, VERTEX_ELEMENTS, 2, 67, quick_vertex_elements(cmd, cmd + field + 2))
-        CASE(0x780A0003, INDEX_BUFFER, 5, quick_index_buffer(w, cmd))
-        CASE(0x784B0000, TOPOLOGY, 2, cmd[1] < 64 && topologies_known >> cmd[1] & 1)
-        CASE(0x78230000, VIEWPORT, 2, quick_viewport(w, base, cmd))
-        CASE(0x780E0000, COLOUR_CALC, 2, quick_colour_calc(w, base, cmd))
-        case HASH(0x7B00):
-            NEED((header & ~0x700u) == 0x7B000005 && at + 7 <= count && !(cmd[1] & ~0x13Fu));
-            TAKE(PRIMITIVE, 7)
-        }
-    look:;
-        struct place p = {at, base, level};
-        verdict v = careful(w, &p);
-        if (v < GOOD || out == full) return refused(v, at, (uint64_t)(out - records));
-        /* What the quick look leaves and is good goes on by its length, and sets no base. */
-        *out++ = (v ^ GOOD) + (uint32_t)at + level;
-        at += v >> 16 & 0xFF;
-    }
+/* One jump to the next command's row, if there is room for its record. */
+#define NEXT if (RARELY(out == full)) goto look; slot = (uint64_t)BYTE(3) + BYTE(2); __asm__("" : "+r"(slot)); goto *rows_at[slot]
+#define NEED(condition) if (RARELY(!(condition))) goto other
+/* A row whose command has this header and length and is good. Right behind it the batch must go on: or the careful look sees to it. */
+#define TAKE(row, length) *out++ = (uint32_t)at + ((row) << 24 | (length) << 16); at += (length); NEXT
+#define ROW(header, row, length, condition) \
+    NEED(DWORD(0) == (header)); NEED(at + (length) < end); NEED(condition); TAKE(row, length)
+/* The same in groups: the field is a multiple of `group`, less 1, and at most `most`. */
+#define GROUPS(key, row, group, most, condition) \
+    field = DWORD(0) ^ (key); \
+    NEED(field <= (most)); NEED(field % (group) == (group) - 1); NEED(at + field + 2 < end); NEED(condition); \
+    TAKE(row, field + 2)
+
+#pragma clang diagnostic ignored "-Winitializer-overrides" /* the table below is filled first, and then has its rows */
+
+/*
+ * The level is part of the position, as it is in a record: at level 1 both `at` and `end` are 4,096 more, and `from` so many dwords
+ * less than the batch's first. Long, since every row is a place to jump to.
+ */
+QUICK struct lungevati_answer walk(const struct windows *w, uint32_t *records, size_t room)
+{
+    static const void *const rows_at[512] = {
+        [0 ... 511] = &&other, [HASH(0x00000000)] = &&noop, [HASH(0x05000000)] = &&batch_end, [HASH(0x18800000)] = &&batch_start,
+        [HASH(0x18C00000)] = &&second_level, [HASH(0x11000000)] = &&load_imm, [HASH(0x10000000)] = &&store_4,
+        [HASH(0x10200000)] = &&store_8, [HASH(0x12000000)] = &&store_reg, [HASH(0x14800000)] = &&load_reg,
+        [HASH(0x7A000000)] = &&pipe_control, [HASH(0x69040000)] = &&pipeline_select, [HASH(0x61010000)] = &&base_address,
+        [HASH(0x78080000)] = &&vertex_buffers, [HASH(0x78090000)] = &&vertex_elements, [HASH(0x780A0000)] = &&index_buffer,
+        [HASH(0x784B0000)] = &&topology, [HASH(0x78230000)] = &&viewport, [HASH(0x780E0000)] = &&colour_calc,
+        [HASH(0x7B000000)] = &&primitive,
+    };
+    uint32_t *out = records, *full = records + (room < BUDGET ? room : BUDGET);
+    uint64_t from = (uint64_t)w->words[0], at = 0, end = w->batch_count, kept = 0, base = NEVER_SET, n, slot;
+    uint32_t field;
+    NEXT;
+
+noop: /* the sum is 0, so bits 31:16 are */
+    NEED(at + 1 < end);
+    *out++ = (uint32_t)at++ + (1 << 16);
+    if (DWORD(0) >> 22 == 0) goto more_noops;
+    NEXT;
+more_noops:
+    n = end - at < (uint64_t)(full - out) ? end - at : (uint64_t)(full - out);
+    n = noops(COMMAND, out, n, (uint32_t)at + (1 << 16));
+    at += n, out += n;
+    if (RARELY(at == end)) goto look;
+    NEXT;
+batch_end:
+    NEED(DWORD(0) == 0x05000000);
+    *out++ = (uint32_t)at + (BATCH_END << 24 | 1 << 16);
+    if (end == w->batch_count) return answer(0, (uint64_t)(out - records));
+    at = kept, from += 4 * LEVEL_1, end -= LEVEL_1;
+    if (RARELY(at == end)) goto look;
+    NEXT;
+batch_start:
+    NEED(DWORD(0) == 0x18800101);
+    NEED(at + 3 <= end && end == w->batch_count);
+    n = turned_64(address_of(COMMAND + 1) - w->batch.at, 2);
+    NEED(n < end);
+    *out++ = (uint32_t)at + (BATCH_START << 24 | 3 << 16);
+    at = n;
+    NEXT;
+second_level:
+    NEED(DWORD(0) == 0x18C00101);
+    NEED(at + 3 <= end && end == w->batch_count);
+    n = turned_64(address_of(COMMAND + 1) - w->batch.at, 2);
+    NEED(n < end);
+    *out++ = (uint32_t)at + (BATCH_START << 24 | 3 << 16);
+    kept = at + 3, at = n + LEVEL_1, from -= 4 * LEVEL_1, end += LEVEL_1;
+    NEXT;
+load_imm: GROUPS(0x11000000, LOAD_IMM, 2, 127, quick_load_imm(COMMAND, COMMAND + field + 2));
+store_4: ROW(0x10000002, STORE_IMM, 4, holds_4(&w->scratch, address_of(COMMAND + 1)));
+store_8: ROW(0x10200003, STORE_IMM, 5, holds_8(&w->scratch, address_of(COMMAND + 1)));
+store_reg: ROW(0x12000002, STORE_REG, 4, register_known(DWORD(1)) && holds_4(&w->scratch, address_of(COMMAND + 2)));
+load_reg: ROW(0x14800002, LOAD_REG, 4, quick_load_reg(w, COMMAND));
+pipe_control: ROW(0x7A000004, PIPE_CONTROL, 6, quick_pipe_control(w, COMMAND));
+pipeline_select: ROW(0x69040000, PIPELINE_SELECT, 1, 1);
+base_address:
+    NEED(DWORD(0) == 0x6101000E);
+    NEED(at + 16 < end);
+    NEED(quick_base_address(COMMAND));
+    if (DWORD(6) & 1) base = address_of(COMMAND + 6) & ~(uint64_t)0xFFF;
+    TAKE(BASE_ADDRESS, 16);
+vertex_buffers: GROUPS(0x78080000, VERTEX_BUFFERS, 4, 131, quick_vertex_buffers(w, COMMAND, COMMAND + field + 2));
+vertex_elements: GROUPS(0x78090000, VERTEX_ELEMENTS, 2, 67, quick_vertex_elements(COMMAND, COMMAND + field + 2));
+index_buffer: ROW(0x780A0003, INDEX_BUFFER, 5, quick_index_buffer(w, COMMAND));
+topology: ROW(0x784B0000, TOPOLOGY, 2, DWORD(1) < 64 && topologies_known >> DWORD(1) & 1);
+viewport: ROW(0x78230000, VIEWPORT, 2, quick_viewport(w, base, COMMAND));
+colour_calc: ROW(0x780E0000, COLOUR_CALC, 2, quick_colour_calc(w, base, COMMAND));
+primitive:
+    NEED((DWORD(0) & ~0x700u) == 0x7B000005);
+    NEED(at + 7 < end);
+    NEED(!(DWORD(1) & ~0x13Fu));
+    TAKE(PRIMITIVE, 7);
+
+other: /* a no-op with a number of its own, or whatever the quick look does not know */
+    if (DWORD(0) >> 22 == 0) goto more_noops;
+look:;
+    struct place p = {at - (end - w->batch_count), base, (uint32_t)(end - w->batch_count)};
+    verdict v = careful(w, &p);
+    if (v < GOOD || out == full) return refused(v, p.at, (uint64_t)(out - records));
+    if (v >> 24 == (GOOD >> 24 | BASE_ADDRESS) && DWORD(6) & 1) base = address_of(COMMAND + 6) & ~(uint64_t)0xFFF;
+    *out++ = (v ^ GOOD) + (uint32_t)at;
+    at += v >> 16 & 0xFF;
+    if (RARELY(at == end)) goto look;
+    NEXT;
 }
 
+/* Numbers 2 to 4, each over all windows before the next. By 4 all end at or below 2^48, so that no sum wraps. */
 static int too_high(struct window w) { return w.at > TOP || w.bytes > TOP - w.at; }
-
-/* By then both end at or below 2^48, so no sum wraps. */
-static int share(struct window a, struct window b)
+static int share(struct window a, struct window b) { return a.bytes && b.bytes && a.at < b.at + b.bytes && b.at < a.at + a.bytes; }
+APART uint32_t unsound(const struct windows *w)
 {
-    return a.bytes && b.bytes && a.at < b.at + b.bytes && b.at < a.at + a.bytes;
+    if ((w->batch.at | w->state.at | w->scratch.at) & 0xFFF) return MISALIGNED;
+    if (too_high(w->batch) || too_high(w->state) || too_high(w->scratch)) return TOO_HIGH;
+    return share(w->batch, w->state) || share(w->batch, w->scratch) || share(w->state, w->scratch) ? SHARED : 0;
+}
+
+/* One window begins behind the other: the difference is then too large one way, and wraps the other. */
+QUICK int apart(const struct window *a, const struct window *b) { return b->at - a->at >= a->bytes && a->at - b->at >= b->bytes; }
+
+/* Aligned windows below 2^47 end below 2^48; the rest are looked at carefully. */
+QUICK int clearly_sound(const struct windows *w)
+{
+    if (RARELY((w->batch.at | w->state.at | w->scratch.at) & 0xFFFF800000000FFF)) return 0;
+    return apart(&w->batch, &w->state) && apart(&w->batch, &w->scratch) && apart(&w->state, &w->scratch);
 }
 
 struct lungevati_answer fast_check(const uint32_t *batch, size_t batch_len, uint64_t batch_at,
@@ -517,10 +582,11 @@ struct lungevati_answer fast_check(const uint32_t *batch, size_t batch_len, uint
                                    uint64_t scratch_at, uint32_t scratch_len,
                                    uint32_t *records, size_t records_len)
 {
-    if (batch_len - 1 >= LIMIT || state_len > LIMIT) return answer(fault(COUNTS, 0), 0);
-    struct windows w = {{batch, state}, batch_len, {batch_at, 4 * batch_len}, {state_at, 4 * state_len}, {scratch_at, scratch_len}};
-    if ((batch_at | state_at | scratch_at) & 0xFFF) return answer(fault(MISALIGNED, 0), 0);
-    if (too_high(w.batch) || too_high(w.state) || too_high(w.scratch)) return answer(fault(TOO_HIGH, 0), 0);
-    if (share(w.batch, w.state) || share(w.batch, w.scratch) || share(w.state, w.scratch)) return answer(fault(SHARED, 0), 0);
-    return walk(&w, records, records_len);
+    if (RARELY(batch_len - 1 >= LIMIT)) return answer(fault(COUNTS, 0), 0);
+    if (RARELY(state_len > LIMIT)) return answer(fault(COUNTS, 0), 0);
+    struct windows w = {{batch, state}, batch_len,
+                        {batch_at, 4 * batch_len, batch_len, batch_len / 2}, {state_at, 4 * state_len, state_len, state_len / 2},
+                        {scratch_at, scratch_len, scratch_len / 4, scratch_len / 8}};
+    uint32_t reason = LIKELY(clearly_sound(&w)) ? 0 : unsound(&w);
+    return reason ? answer(fault(reason, 0), 0) : walk(&w, records, records_len);
 }
