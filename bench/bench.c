@@ -1,5 +1,5 @@
 /*
- * What each proved engine costs beside the second opinion, on the same captures in one run.
+ * What each proved engine costs beside the second opinion, and beside the fast checker in C, on the same captures in one run.
  *   bench ROUNDS ROOM        instructions of each call, counted by the trap flag, and the least time of ROUNDS short rounds, or no
  *                            time if that is 0; ROOM is for how many records: it cuts the loop short, and nothing else if it
  *                            is at least 4,096
@@ -193,14 +193,14 @@ static double timed(check_call *check, int calls)
 }
 
 /* The least of many rounds, each shorter than what another process takes at a time; the two in turn, either one first. */
-static double time_ratio(check_call *check, uint64_t rounds, double *proved)
+static double time_ratio(check_call *check, check_call *beside, uint64_t rounds, double *proved)
 {
     double least[2] = {1e30, 1e30};
     int calls = 1;
     while (timed(check, calls) * calls < 2e5 && calls < 1 << 20) calls *= 2;
     for (uint64_t k = 0; k < 2 * rounds; k++) {
         int which = (int)((k + k / 2) % 2);
-        double t = timed(which ? other_check : check, calls);
+        double t = timed(which ? beside : check, calls);
         if (t < least[which]) least[which] = t;
     }
     *proved = least[0];
@@ -209,37 +209,44 @@ static double time_ratio(check_call *check, uint64_t rounds, double *proved)
 
 /* ---- The table ---- */
 
-static int same_answers(const struct engine *engine, const char *name, uint64_t *count, uint64_t *dwords)
+static int same_answers(const char *who, check_call *check, const char *name, uint64_t *count, uint64_t *dwords)
 {
-    struct lungevati_answer p = ask(engine->check), o = ask(other_check);
+    struct lungevati_answer p = ask(check), o = ask(other_check);
     *count = o.count;
     *dwords = 0;
     for (uint32_t i = 0; i < o.count; i++) *dwords += records[i] >> 16 & 0xFF;
     if (p.reason == o.reason && p.window == o.window && p.index == o.index && p.count == o.count && o.count > 0) return 1;
-    printf("%s, %s: proved %u %u %u %u, C %u %u %u %u\n", engine->name, name, p.reason, p.window, p.index, p.count, o.reason,
-           o.window, o.index, o.count);
+    printf("%s, %s: %u %u %u %u, C %u %u %u %u\n", who, name, p.reason, p.window, p.index, p.count, o.reason, o.window, o.index,
+           o.count);
     return 0;
 }
 
+/* What the two checkers in C take of the capture that stands. */
+struct counts {
+    double c, fast;
+};
+
 static void print_head(uint64_t rounds)
 {
-    printf("%42s |    instructions a call     |    a command      |     a dword%s\n", "", rounds ? "     |  least time" : "");
-    printf("%-8s %-16s commands  dwords |    proved         C  ratio |   proved        C |  proved       C%s\n", "engine",
-           "capture", rounds ? " |  ratio  proved ns" : "");
+    printf("%42s |            instructions a call            |         a command          |         a dword%s\n", "",
+           rounds ? "         |      least time" : "");
+    printf("%-8s %-16s commands  dwords |    proved         C  ratio      fast  ratio |   proved        C     fast |  proved       C    fast%s\n",
+           "engine", "capture", rounds ? " | to C  to fast  proved ns" : "");
 }
 
-/* One engine on the capture that stands, of which C takes so many instructions. */
-static int measure(const struct engine *engine, const char *name, double c, uint64_t rounds)
+/* One engine on the capture that stands. */
+static int measure(const struct engine *engine, const char *name, struct counts in_c, uint64_t rounds)
 {
     uint64_t count, dwords;
-    if (!same_answers(engine, name, &count, &dwords)) return 0;
-    double p = (double)instructions(engine->check);
+    if (!same_answers(engine->name, engine->check, name, &count, &dwords)) return 0;
+    double p = (double)instructions(engine->check), c = in_c.c, f = in_c.fast;
     double n = (double)count, d = (double)dwords;
-    printf("%-8s %-16s %8.0f %7.0f | %9.0f %9.0f %6.3f | %8.2f %8.2f | %7.2f %7.2f", engine->name, name, n, d, p, c, p / c,
-           p / n, c / n, p / d, c / d);
+    printf("%-8s %-16s %8.0f %7.0f | %9.0f %9.0f %6.3f %9.0f %6.3f | %8.2f %8.2f %8.2f | %7.2f %7.2f %7.2f", engine->name, name, n, d, p, c,
+           p / c, f, p / f, p / n, c / n, f / n, p / d, c / d, f / d);
     if (rounds) {
-        double proved_time, ratio = time_ratio(engine->check, rounds, &proved_time);
-        printf(" | %6.3f %10.0f", ratio, proved_time);
+        double proved_time, to_c = time_ratio(engine->check, other_check, rounds, &proved_time);
+        double to_fast = time_ratio(engine->check, fast_check, rounds, &proved_time);
+        printf(" | %6.3f %6.3f %10.0f", to_c, to_fast, proved_time);
     }
     printf("\n");
     return 1;
@@ -248,7 +255,7 @@ static int measure(const struct engine *engine, const char *name, double c, uint
 int main(int n, char **v)
 {
     if (n != 3) return printf("usage: bench ROUNDS ROOM\n"), 2;
-    uint64_t rounds = strtoul(v[1], 0, 10);
+    uint64_t rounds = strtoul(v[1], 0, 10), count, dwords;
     room = strtoul(v[2], 0, 10);
     if (room > BUDGET) room = BUDGET;
     signal(SIGTRAP, step);
@@ -256,9 +263,10 @@ int main(int n, char **v)
     for (uint32_t i = 0; i < sizeof captures / sizeof captures[0]; i++) {
         batch_len = 0;
         captures[i].make();
-        double c = (double)instructions(other_check);
+        if (!same_answers("fast", fast_check, captures[i].name, &count, &dwords)) return 1;
+        struct counts in_c = {(double)instructions(other_check), (double)instructions(fast_check)};
         for (uint32_t e = 0; e < sizeof engines / sizeof engines[0]; e++)
-            if (!measure(&engines[e], captures[i].name, c, rounds)) return 1;
+            if (!measure(&engines[e], captures[i].name, in_c, rounds)) return 1;
     }
     return 0;
 }

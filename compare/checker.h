@@ -1,4 +1,4 @@
-/* The second opinion: a checker and a reader of capture files in plain C, with the calls of lungevati.h. */
+/* The second opinion: two checkers and a reader of capture files in plain C, with the calls of lungevati.h. */
 #ifndef CHECKER_H
 #define CHECKER_H
 
@@ -8,6 +8,12 @@ struct lungevati_answer other_check(const uint32_t *batch, size_t batch_len, uin
                                     const uint32_t *state, size_t state_len, uint64_t state_at,
                                     uint64_t scratch_at, uint32_t scratch_len,
                                     uint32_t *records, size_t records_len);
+
+/* The second checker in C, written for speed alone (fast.c): the same answers. */
+struct lungevati_answer fast_check(const uint32_t *batch, size_t batch_len, uint64_t batch_at,
+                                   const uint32_t *state, size_t state_len, uint64_t state_at,
+                                   uint64_t scratch_at, uint32_t scratch_len,
+                                   uint32_t *records, size_t records_len);
 
 struct lungevati_contents other_read(const uint8_t *file, size_t file_len,
                                      uint32_t *batch, size_t batch_len,

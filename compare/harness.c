@@ -1,5 +1,5 @@
 /*
- * Both engines of the proved checker against the second opinion.
+ * Both engines of the proved checker, and the fast checker in C, against the second opinion.
  *   harness N SEED          document 01's cases and the sweeps, then N captures and files made from SEED
  *   harness N SEED CASE     only that one of the N, and shows it
  * Exit status 1 at the first difference, or where a number was met too rarely for the comparison to say much of it.
@@ -146,17 +146,19 @@ static struct lungevati_answer ask(check_call *check, const struct capture *c, u
                  c->scratch_at, c->scratch_len, recs + GUARD, c->records_len);
 }
 
-/* The proved engines. */
+/* The proved engines, and the fast checker in C, which is asked the same. */
 static const struct engine {
     const char *name, *records;
     check_call *check;
-} engines[] = {{"plain", "the plain engine's records", lungevati_check}, {"table", "the table engine's records", lungevati_check_table}};
+} engines[] = {{"the plain engine", "the plain engine's records", lungevati_check},
+               {"the table engine", "the table engine's records", lungevati_check_table},
+               {"the fast checker", "the fast checker's records", fast_check}};
 enum { ENGINES = sizeof engines / sizeof engines[0] };
 
 static int same_answer(const char *engine, struct lungevati_answer p, struct lungevati_answer o)
 {
     if (p.reason == o.reason && p.window == o.window && p.index == o.index && p.count == o.count) return 1;
-    printf("DIFFERENT: check: %s engine reason %u window %u index %u count %u, other reason %u window %u index %u count %u\n", engine,
+    printf("DIFFERENT: check: %s reason %u window %u index %u count %u, other reason %u window %u index %u count %u\n", engine,
            p.reason, p.window, p.index, p.count, o.reason, o.window, o.index, o.count);
     return 0;
 }

@@ -40,11 +40,12 @@ kit_archives() {
     kit_calls="$top/target/staticlib/libapi.a $top/target/staticlib/libapi_table.a"
 }
 
-# kit_as ENGINE OBJECT SOURCE [FLAG...]: a checker in C under the names of the proved calls, in the place of the engine plain or table
+# kit_as ENGINE OBJECT SOURCE [FLAG...]: a checker in C under other names, in the place of the engine plain or table, or of the fast checker
 kit_as() {
     case $1 in
         plain) kit_names='-Dother_check=lungevati_check -Dother_read=lungevati_read' ;;
         table) kit_names='-Dother_check=lungevati_check_table -Dother_read=unused_read' ;;
+        fast) kit_names='-Dother_check=fast_check -Dother_read=unused_fast_read' ;;
     esac
     shift
     # shellcheck disable=SC2086 # two words
