@@ -550,7 +550,7 @@ look:;
     struct place p = {at - (end - w->batch_count), base, (uint32_t)(end - w->batch_count)};
     verdict v = careful(w, &p);
     if (v < GOOD || out == full) return refused(v, p.at, (uint64_t)(out - records));
-    if (v >> 24 == (GOOD >> 24 | BASE_ADDRESS) && DWORD(6) & 1) base = address_of(COMMAND + 6) & ~(uint64_t)0xFFF;
+    /* What is good yet goes on by its length; a base that it set, as the batch's last command, nobody would ask for. */
     *out++ = (v ^ GOOD) + (uint32_t)at;
     at += v >> 16 & 0xFF;
     if (RARELY(at == end)) goto look;
