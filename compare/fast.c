@@ -2,8 +2,8 @@
  * A second checker in C, written for speed alone: what the rules cost at the least, as far as we know. It is unproved, is held to the
  * same answers as all the others (compare/run), and is measured beside them (bench/run). checker.c is the one to be read.
  *
- * A command is looked at twice at most. The quick look knows only commands that are good, and among them the usual: one jump by a
- * hash of the header's upper half, the header compared as a whole, masks, values and ranges of several dwords in one test, and
+ * A command is looked at twice at most. The quick look knows only commands that are good, and among them the usual: one jump by the
+ * sum of the header's upper bytes, the header compared as a whole, masks, values and ranges of several dwords in one test, and
  * no-ops, pairs and elements several at a time. What it does not know it leaves to the careful look, which goes through the numbers
  * 6 to 17 in their order, by a table, and finds the fault, or that there is none.
  */
@@ -469,7 +469,7 @@ APART uint64_t noops(const uint32_t *cmd, uint32_t *out, uint64_t most, uint32_t
  * The level is part of the position, as it is in a record: at level 1 both `at` and `end` are 4,096 more, and `from` so many dwords
  * less than the batch's first. Long, since every row is a place to jump to.
  */
-QUICK struct lungevati_answer walk(const struct windows *w, uint32_t *records, size_t room)
+static struct lungevati_answer walk(const struct windows *w, uint32_t *records, size_t room)
 {
     static const void *const rows_at[512] = {
         [0 ... 511] = &&other, [HASH(0x00000000)] = &&noop, [HASH(0x05000000)] = &&batch_end, [HASH(0x18800000)] = &&batch_start,
@@ -550,7 +550,7 @@ look:;
     struct place p = {at - (end - w->batch_count), base, (uint32_t)(end - w->batch_count)};
     verdict v = careful(w, &p);
     if (v < GOOD || out == full) return refused(v, p.at, (uint64_t)(out - records));
-    if (v >> 24 == (GOOD >> 24 | BASE_ADDRESS) && DWORD(6) & 1) base = address_of(COMMAND + 6) & ~(uint64_t)0xFFF;
+    /* What is good yet goes on by its length; a base that it set, as the batch's last command, nobody would ask for. */
     *out++ = (v ^ GOOD) + (uint32_t)at;
     at += v >> 16 & 0xFF;
     if (RARELY(at == end)) goto look;

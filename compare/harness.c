@@ -330,7 +330,7 @@ static int many(uint64_t count, uint64_t seed)
     }
     print_numbers(&t);
     print_rows(&t);
-    printf("\n%lu captures from seed %lu: proved and C agree. ", (unsigned long)count, (unsigned long)seed);
+    printf("\n%lu captures from seed %lu: proved, C and the fast C agree. ", (unsigned long)count, (unsigned long)seed);
     printf("%lu accepted runs streamed, %lu commands, %lu words stored.\n", (unsigned long)t.streamed, (unsigned long)t.steps,
            (unsigned long)t.stores);
     return !often_enough(&t, count / 200);

@@ -296,6 +296,71 @@ static int sweep_windows(void)
     return 1;
 }
 
+/* ---- Many of the same, of which a checker may look at several at once: so each of them is tried ---- */
+
+struct repeated {
+    uint32_t header, size, words[4]; /* a command of groups: its header without the field, a group's dwords, and a good group */
+};
+
+static const struct repeated pairs = {0x11000000, 2, {0x2600, 7}}, buffers = {0x78080000, 4, {0x4010, 0x00300040, 0, 64}},
+                             elements = {0x78090000, 2, {0x02000000, 0x11110000}};
+enum { GROUPS = 9, NOOPS = 40 };
+
+/* A command of nine groups; gives back one of its dwords, to be changed. */
+static uint32_t *set_groups(const struct repeated *r, uint32_t dword)
+{
+    usual_windows();
+    c.batch[0] = r->header | (r->size * GROUPS - 1);
+    for (uint32_t i = 0; i < r->size * GROUPS; i++) c.batch[1 + i] = r->words[i % r->size];
+    c.batch[1 + r->size * GROUPS] = 0x05000000;
+    c.batch_len = 2 + r->size * GROUPS;
+    return c.batch + 1 + dword;
+}
+
+/* The values from `low` to `high`, in the bits of a mask, in one dword of each group. */
+static int sweep_groups(const struct repeated *r, uint32_t dword, uint32_t mask, uint32_t low, uint32_t high)
+{
+    for (uint32_t at = dword; at < r->size * GROUPS; at += r->size)
+        for (uint32_t value = low; value <= high; value++) {
+            uint32_t *changed = set_groups(r, at);
+            *changed = (*changed & ~mask) | value * (mask & -mask);
+            if (!try_it()) return 0;
+        }
+    return 1;
+}
+
+static int sweep_group_bits(const struct repeated *r)
+{
+    for (uint32_t bit = 0; bit < 32 * r->size * GROUPS; bit++) {
+        *set_groups(r, bit / 32) ^= 1u << bit % 32;
+        if (!try_it()) return 0;
+    }
+    return 1;
+}
+
+/* Forty no-ops: each bit of each of them, and each room. */
+static int sweep_noops(void)
+{
+    for (uint32_t bit = 0; bit < 32 * NOOPS + NOOPS + 4; bit++) {
+        usual_windows();
+        for (uint32_t i = 0; i < NOOPS; i++) c.batch[i] = bit / 32 == i ? 1u << bit % 32 : 0;
+        c.batch[NOOPS] = 0x05000000;
+        c.batch_len = NOOPS + 1;
+        c.records_len = bit < 32 * NOOPS ? NOOPS + 1 : bit - 32 * NOOPS;
+        if (!try_it()) return 0;
+    }
+    return 1;
+}
+
+static int sweep_many(void)
+{
+    return sweep_groups(&pairs, 0, 0xFFFFFFFF, 0x2380, 0x26FF) && sweep_groups(&elements, 0, 0xFC000000, 0, 63) &&
+           sweep_groups(&elements, 0, 0x01FF0000, 0, 511) && sweep_groups(&elements, 1, 0xF0000000, 0, 15) &&
+           sweep_groups(&elements, 1, 0x0F000000, 0, 15) && sweep_groups(&elements, 1, 0x00F00000, 0, 15) &&
+           sweep_groups(&elements, 1, 0x000F0000, 0, 15) && sweep_group_bits(&pairs) && sweep_group_bits(&buffers) &&
+           sweep_group_bits(&elements) && sweep_noops();
+}
+
 /* ---- Files ---- */
 
 static void set_file(struct capture_file *f, uint32_t batch_count, uint32_t state_count, size_t len)
@@ -337,5 +402,6 @@ int sweep(struct tally *t)
 {
     tally = t;
     return sweep_cases() && sweep_samples() && sweep_lengths() && sweep_codes() && sweep_primitive() && sweep_addresses() &&
-           sweep_structures() && sweep_pointers(16) && sweep_pointers(17) && sweep_windows() && sweep_files();
+           sweep_structures() && sweep_pointers(16) && sweep_pointers(17) && sweep_windows() && sweep_many() &&
+           sweep_files();
 }
