@@ -1,2 +1,3 @@
 pub mod BitsOnly
+pub mod Rows
 pub mod Deciding

@@ -3,7 +3,7 @@
 ghost use mathlib.Core.Path.{_≡_};
 ghost use mathlib.Core.Bool.{true, not};
 ghost use mathlib.Core.List.{[], _∷_};
-ghost use Prim.Native.Nat.{_+_, _*_, _≤_, _<_, _-_};
+ghost use Prim.Native.Nat.{_+_, _*_, _%_, _≤_, _<_, _-_};
 ghost use lib.ListN.{length, getD};
 ghost use Rattle.rules.specs.declared.Level.the-variants.{First};
 ghost use Rattle.rules.specs.declared.Reason.the-variants.{BitNotAllowed, ValueBroken};
@@ -14,9 +14,11 @@ ghost use Rattle.rules.specs.Uses.{postSync};
 ghost use Rattle.rules.specs.Values.{valueWrong};
 ghost use Rattle.plain_mi.specs.Plain.{coded, firstCoded, wrongOf, bareOf};
 ghost use Rattle.plain_3d.specs.Stray.{strayFrom};
+ghost use Rattle.plain_3d.specs.Pointer.{pointerOf};
 use formats::known_topology;
 use plain_mi::heads::other_header;
 use plain_mi::heads::sized_fits;
+use plain_mi::heads::whole_header;
 use plain_mi::numbers::BIT;
 use plain_mi::numbers::NOTHING;
 use plain_mi::numbers::PAST;
@@ -34,11 +36,9 @@ pub fn pipe(w: Windows, rest: &[u32]) -> usize
     ensures { λ r. ⌜ r ≡ wrongOf w pipeRow (now (rest .entry)) First ⌝ }
 {
     // 8, 9, 10: "7A000004h"
-    if rest[0] != 0x7A00_0004 {
-        return other_header(rest, 4);
-    }
-    if rest.len() < 6 {
-        return at(PAST, 0);
+    let head = whole_header(rest, 0x7A00_0004);
+    if head != NOTHING {
+        return head;
     }
     // 10: "0010FCBFh, address FFFFFFFCh, 2 free"
     if !allowed(rest[1], 0x0010_FCBF) {
@@ -103,11 +103,9 @@ pub fn base(rest: &[u32]) -> usize
     ensures { λ r. ⌜ r ≡ bareOf baseRow (now (rest .entry)) ⌝ }
 {
     // 8, 9, 10: "6101000Eh"
-    if rest[0] != 0x6101_000E {
-        return other_header(rest, 14);
-    }
-    if rest.len() < 16 {
-        return at(PAST, 0);
+    let head = whole_header(rest, 0x6101_000E);
+    if head != NOTHING {
+        return head;
     }
     // 10: "dwords 1, 4, 6, 8, 10 allow FFFFF7F1h; 2, 5, 7, 9, 11 allow 0000FFFFh; 3 allows 007F0000h; 12 to 15 allow FFFFF001h"
     let first = four_bits(rest, 0, 0x6101_000E, 0xFFFF_F7F1, 0x0000_FFFF, 0x007F_0000);
@@ -151,11 +149,9 @@ pub fn index_buffer(w: Windows, rest: &[u32]) -> usize
     ensures { λ r. ⌜ r ≡ wrongOf w indexBufferRow (now (rest .entry)) First ⌝ }
 {
     // 8, 9, 10: "780A0003h"
-    if rest[0] != 0x780A_0003 {
-        return other_header(rest, 3);
-    }
-    if rest.len() < 5 {
-        return at(PAST, 0);
+    let head = whole_header(rest, 0x780A_0003);
+    if head != NOTHING {
+        return head;
     }
     // 10: "37Fh, address free, free"
     if !allowed(rest[1], 0x0000_037F) {
@@ -181,11 +177,9 @@ pub fn topology(rest: &[u32]) -> usize
     ensures { λ r. ⌜ r ≡ bareOf topologyRow (now (rest .entry)) ⌝ }
 {
     // 8, 9, 10: "784B0000h"
-    if rest[0] != 0x784B_0000 {
-        return other_header(rest, 0);
-    }
-    if rest.len() < 2 {
-        return at(PAST, 0);
+    let head = whole_header(rest, 0x784B_0000);
+    if head != NOTHING {
+        return head;
     }
     // 10: "3Fh"
     if !allowed(rest[1], 0x0000_003F) {
@@ -203,18 +197,8 @@ pub fn viewport(rest: &[u32]) -> usize
     requires { ⌜ (0 < length (now rest)) × (rowOf (getD (now rest) 0 0) ≡ viewportRow) ⌝ }
     ensures { λ r. ⌜ r ≡ bareOf viewportRow (now (rest .entry)) ⌝ }
 {
-    // 8, 9, 10: "78230000h"
-    if rest[0] != 0x7823_0000 {
-        return other_header(rest, 0);
-    }
-    if rest.len() < 2 {
-        return at(PAST, 0);
-    }
-    // 10: "FFFFFFE0h"
-    if !allowed(rest[1], 0xFFFF_FFE0) {
-        return at(BIT, 1);
-    }
-    NOTHING
+    // 8, 9, 10: "78230000h", "FFFFFFE0h"
+    pointer(rest, 0x7823_0000, 0xFFFF_FFE0)
 }
 
 // 15: 3DSTATE_CC_STATE_POINTERS.
@@ -222,15 +206,20 @@ pub fn colour(rest: &[u32]) -> usize
     requires { ⌜ (0 < length (now rest)) × (rowOf (getD (now rest) 0 0) ≡ colourRow) ⌝ }
     ensures { λ r. ⌜ r ≡ bareOf colourRow (now (rest .entry)) ⌝ }
 {
-    // 8, 9, 10: "780E0000h"
-    if rest[0] != 0x780E_0000 {
-        return other_header(rest, 0);
+    // 8, 9, 10: "780E0000h", "FFFFFFC1h"
+    pointer(rest, 0x780E_0000, 0xFFFF_FFC1)
+}
+
+// A row of a header and one dword, which has to keep a mask.
+fn pointer(rest: &[u32], header: u32, mask: u32) -> usize
+    requires { ⌜ (0 < length (now rest)) × (header % 256 ≡ 0) ⌝ }
+    ensures { λ r. ⌜ r ≡ pointerOf (now (rest .entry)) header mask ⌝ }
+{
+    let head = whole_header(rest, header);
+    if head != NOTHING {
+        return head;
     }
-    if rest.len() < 2 {
-        return at(PAST, 0);
-    }
-    // 10: "FFFFFFC1h"
-    if !allowed(rest[1], 0xFFFF_FFC1) {
+    if !allowed(rest[1], mask) {
         return at(BIT, 1);
     }
     NOTHING

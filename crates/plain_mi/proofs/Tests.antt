@@ -4,7 +4,7 @@ use Prim.Native.Nat.{ℕ, zero, suc, _+_, _*_, _≤_, _<_}
 use native.Mathlib.Omega.{arith}
 use mathlib.Core.Path.{_≡_, refl, sym, ap, _∙_}
 use mathlib.Core.Bool.{Bool, true, false, cond, not}
-use mathlib.Core.List.{List}
+use mathlib.Core.List.{List, [], _∷_}
 use lib.ListN.{length, getD}
 use Rattle.rules.specs.declared.Windows.{Windows}
 use Rattle.rules.specs.declared.Level.{Level}
@@ -96,6 +96,21 @@ module _ {w : Windows} {r : ℕ} {rest : List ℕ} {level : Level} {n answer : �
 -- what a call says of a test, where the code asks its negation
 pub asked : {result test taken : Bool} → result ≡ test → not result ≡ taken → not test ≡ taken
 asked e f = ap not (sym e) ∙ f
+
+-- tests in a list, each with its answer: that of the first that holds, and else the answer behind them
+abbrev pub Test : Type 0
+Test = Bool × ℕ
+
+abbrev pub answered : List Test → ℕ → ℕ
+answered [] later = later
+answered (t ∷ ts) later = cond (t .0) (t .1) (answered ts later)
+
+-- the first of them holds, or the others decide
+pub refuses : (n later : ℕ) {test : Bool} {answer : ℕ} → test ≡ true → cond test n later ≡ answer → n ≡ answer
+refuses n later e f = ap (λ (t : Bool). cond t n later) (sym e) ∙ f
+
+pub passes : (n later : ℕ) {test : Bool} {answer : ℕ} → test ≡ false → cond test n later ≡ answer → later ≡ answer
+passes n later e f = ap (λ (t : Bool). cond t n later) (sym e) ∙ f
 
 -- one test with its answer, where it is known how it goes
 pub answers : (n later : ℕ) {test taken : Bool} → test ≡ taken → cond taken n later ≡ cond test n later

@@ -13,11 +13,11 @@ ghost use Rattle.plain_mi.specs.Plain.{coded, firstCoded, wrongOf, bareOf, noWi
 ghost use Rattle.rules.specs.Masks.{bitWrong};
 ghost use Rattle.looks.specs.Looks.{contentOf};
 use crate::codes::known_format;
+use plain_mi::heads::groups_header;
+use plain_mi::heads::length_by_field;
 use plain_mi::heads::sized_fits;
 use plain_mi::numbers::BIT;
-use plain_mi::numbers::LENGTH;
 use plain_mi::numbers::NOTHING;
-use plain_mi::numbers::PAST;
 use plain_mi::numbers::RANGE;
 use plain_mi::numbers::VALUE;
 use plain_mi::numbers::at;
@@ -29,24 +29,12 @@ pub fn vertex_buffers(w: Windows, rest: &[u32]) -> usize
     requires { ⌜ (0 < length (now rest)) × (rowOf (getD (now rest) 0 0) ≡ vertexBuffersRow) ⌝ }
     ensures { λ r. ⌜ r ≡ wrongOf w vertexBuffersRow (now (rest .entry)) First ⌝ }
 {
-    let header = rest[0];
-    let field = header % 256;
-    // 8: "field 4n-1, n 1..33"
-    if field % 4 != 3 {
-        return at(LENGTH, 0);
+    // 8, 9, 10: "78080000h, field 4n-1, n 1..33"
+    let head = groups_header(rest, 0x7808_0000, 4, 33);
+    if head != NOTHING {
+        return head;
     }
-    if 131 < field {
-        return at(LENGTH, 0);
-    }
-    // 9
-    let length = field as usize + 2;
-    if rest.len() < length {
-        return at(PAST, 0);
-    }
-    // 10: "78080000h"
-    if header - field != 0x7808_0000 {
-        return at(BIT, 0);
-    }
+    let length = length_by_field(rest[0]);
     buffers(w, &rest[..length])
 }
 
@@ -189,24 +177,12 @@ pub fn vertex_elements(rest: &[u32]) -> usize
     requires { ⌜ (0 < length (now rest)) × (rowOf (getD (now rest) 0 0) ≡ vertexElementsRow) ⌝ }
     ensures { λ r. ⌜ r ≡ bareOf vertexElementsRow (now (rest .entry)) ⌝ }
 {
-    let header = rest[0];
-    let field = header % 256;
-    // 8: "field 2n-1, n 1..34"
-    if field % 2 != 1 {
-        return at(LENGTH, 0);
+    // 8, 9, 10: "78090000h, field 2n-1, n 1..34"
+    let head = groups_header(rest, 0x7809_0000, 2, 34);
+    if head != NOTHING {
+        return head;
     }
-    if 67 < field {
-        return at(LENGTH, 0);
-    }
-    // 9
-    let length = field as usize + 2;
-    if rest.len() < length {
-        return at(PAST, 0);
-    }
-    // 10: "78090000h"
-    if header - field != 0x7809_0000 {
-        return at(BIT, 0);
-    }
+    let length = length_by_field(rest[0]);
     elements(&rest[..length])
 }
 
