@@ -11,7 +11,7 @@ use Rattle.rules.specs.declared.Level.the-variants.{First}
 use Rattle.rules.specs.declared.Verdict.{Verdict}
 use Rattle.rules.specs.declared.Verdict.the-variants.{Pass, Fails}
 use Rattle.rules.specs.declared.Reason.{Reason}
-use Rattle.rules.specs.declared.Reason.the-variants.{WrongLength, PastTheWindow, BitNotAllowed, ValueBroken}
+use Rattle.rules.specs.declared.Reason.the-variants.{WrongLength, PastTheWindow, BitNotAllowed, ValueBroken, RangeOutside}
 use Rattle.rules.specs.Words.{firstFrom}
 use Rattle.rules.specs.Refusals.{batchWindow, numberOf, fault, refuseIf, refuseFound}
 use Rattle.rules.specs.Windows.{window}
@@ -75,6 +75,12 @@ registerOf d header =
     orThen (wholeHeader d header)
     (coded (orElse (refuseFound BitNotAllowed batchWindow 0 (firstFrom (bitWrong storeRegisterRow d) 1 3))
     (refuseFound ValueBroken batchWindow 0 (firstFrom (valueWrong storeRegisterRow d) 1 3))))
+
+-- the first fault that one check finds in the n dwords from k on, by the check's number: 10, 12, and 13 for any other
+unfoldable pub firstBy : Windows → ℕ → List ℕ → ℕ → ℕ → ℕ → ℕ
+firstBy w r d number k n =
+    cond (eqb number 10) (firstCoded BitNotAllowed (bitWrong r d) k n)
+    (cond (eqb number 12) (firstCoded ValueBroken (valueWrong r d) k n) (firstCoded RangeOutside (rangeWrong w r d) k n))
 
 -- the test finds none of the n numbers from k on: `firstFrom` as a yes or no
 unfoldable pub freeFrom : (ℕ → Bool) → ℕ → ℕ → Bool

@@ -10,7 +10,7 @@ ghost use Rattle.rules.specs.Words.{bit};
 ghost use Rattle.rules.specs.Commands.{noopRow, endRow, startRow, storeRow, storeRegisterRow, loadRegisterRow, rowOf, setRegistersRow};
 ghost use Rattle.rules.specs.Masks.{bitWrong};
 ghost use Rattle.rules.specs.Step.{nested};
-ghost use Rattle.plain_mi.specs.Plain.{firstCoded, wrongOf, bareOf, registerOf, coded, noWindows, cleanFrom, Groups, GroupAt};
+ghost use Rattle.plain_mi.specs.Plain.{firstCoded, firstBy, wrongOf, bareOf, registerOf, coded, noWindows, cleanFrom, Groups, GroupAt};
 ghost use Rattle.rules.specs.Values.{valueWrong};
 ghost use Rattle.looks.specs.Looks.{contentOf};
 use crate::heads::groups_header;
@@ -140,32 +140,30 @@ fn pair_value(d: &[u32], k: usize) -> usize
     NOTHING
 }
 
-// The first 10 of all pairs.
-fn pair_bits(d: &[u32]) -> usize
-    requires { ⌜ Groups 2 (now d) ⌝ }
-    ensures { λ r. ⌜ r ≡ firstCoded BitNotAllowed (bitWrong setRegistersRow (now (d .entry))) 1 (length (now (d .entry)) - 1) ⌝ }
+// What the check of this number says of the pair at k; 13 has nothing to say, since a pair has no address.
+fn pair_wrong(number: usize, d: &[u32], k: usize) -> usize
+    requires { ⌜ GroupAt 2 (now d) k ⌝ }
+    ensures { λ r. ⌜ r ≡ firstBy noWindows setRegistersRow (now (d .entry)) number k 2 ⌝ }
 {
-    let mut k = 1;
-    while k < d.len() {
-        let bit = pair_bit(d, k);
-        if bit != NOTHING {
-            return bit;
-        }
-        k += 2;
+    if number == BIT {
+        return pair_bit(d, k);
+    }
+    if number == VALUE {
+        return pair_value(d, k);
     }
     NOTHING
 }
 
-// The first 12 of all pairs.
-fn pair_values(d: &[u32]) -> usize
+// The first that the check of this number finds in all pairs.
+fn first_of_pairs(number: usize, d: &[u32]) -> usize
     requires { ⌜ Groups 2 (now d) ⌝ }
-    ensures { λ r. ⌜ r ≡ firstCoded ValueBroken (valueWrong setRegistersRow (now (d .entry))) 1 (length (now (d .entry)) - 1) ⌝ }
+    ensures { λ r. ⌜ r ≡ firstBy noWindows setRegistersRow (now (d .entry)) number 1 (length (now (d .entry)) - 1) ⌝ }
 {
     let mut k = 1;
     while k < d.len() {
-        let value = pair_value(d, k);
-        if value != NOTHING {
-            return value;
+        let wrong = pair_wrong(number, d, k);
+        if wrong != NOTHING {
+            return wrong;
         }
         k += 2;
     }
@@ -198,11 +196,11 @@ fn pairs(d: &[u32]) -> usize
     if pairs_good(d) {
         return NOTHING;
     }
-    let bit = pair_bits(d);
+    let bit = first_of_pairs(BIT, d);
     if bit != NOTHING {
         return bit;
     }
-    pair_values(d)
+    first_of_pairs(VALUE, d)
 }
 
 // The field of a store: "bit 21 and field 3 go together, as do clear and 2 (else 8)".
