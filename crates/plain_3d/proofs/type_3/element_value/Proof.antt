@@ -1,94 +1,67 @@
 -- `plain_3d::type_3::element_value` meets its contract: its index, its format, and its controls.
 -- Assumes nothing.
-use borrow.Author.Needs.{needs}
 use Prim.Native.Nat.{ℕ, _+_}
 use native.Mathlib.Omega.{arith}
-use mathlib.Core.Path.{_≡_, refl, sym, _∙_}
-use mathlib.Core.Bool.{_||_, or-false}
-use mathlib.Core.List.{List}
+use mathlib.Core.Path.{_≡_, refl, _∙_}
+use mathlib.Core.Bool.{cond, _||_, or-false, not, Bool·not-not}
+use mathlib.Core.List.{List, [], _∷_}
 use lib.Dec.{eqb, ltb}
-use lib.ListN.{getD}
-use borrow.Author.Tests.{lt-ltb, le-ltb, not-true, not-false}
+use lib.ListN.{getD, drop}
+use borrow.Author.Needs.{needs}
+use borrow.Author.Tests.{lt-ltb, le-ltb}
+use Rattle.rules.specs.declared.Reason.the-variants.{ValueBroken}
 use Rattle.rules.specs.Words.{field}
+use Rattle.rules.specs.Refusals.{numberOf}
 use Rattle.rules.specs.Formats.{formatBits}
 use Rattle.rules.specs.Commands.{vertexElementsRow, rows, theRow, groupSize}
-use Rattle.rules.specs.Refusals.{numberOf}
 use Rattle.rules.specs.Values.{componentsWrong, valueRules, ruleOf, valueWrong}
-use Rattle.plain_mi.specs.Plain.{GroupAt}
-use Rattle.plain_mi.proofs.Coding.{found-at, passed-at, none-left}
-use Rattle.plain_mi.proofs.Dwords.{spot-in, value-at, high-index, low-index}
+use Rattle.plain_mi.specs.Plain.{firstCoded}
+use Rattle.plain_mi.proofs.Tests.{Test, asked, answered, refuses, passes, one-by-one, in-two}
+use Rattle.plain_mi.proofs.Dwords.{value-in, high-index, low-index}
 use Rattle.plain_3d.proofs.type_3.element_value.Statement.{statement}
 use Rattle.plain_3d.proofs.type_3.element_value.Tie as tie
 
--- what 12 asks of its two dwords
-module _ (d : List ℕ) (k : ℕ) (g : GroupAt 2 d k) where
-  first-value : valueWrong vertexElementsRow d k ≡ (ltb 32 (field (getD d k 0) 31 26) || eqb (formatBits (field (getD d k 0) 24 16)) 0)
-  unfolding rows theRow groupSize valueRules ruleOf
-  first-value = value-at vertexElementsRow d k 1 (spot-in 2 k 0 (g .0) (g .2) (omega arith) (omega arith)) ∙ or-false _
+-- what the functions asked say is yes where nothing is wrong, and the code asks for no
+abbrev tests : List ℕ → ℕ → List Test
+tests d k =
+    (ltb 32 (field (getD d k 0) 31 26), 3072 + k)
+    ∷ (not (not (eqb (formatBits (field (getD d k 0) 24 16)) 0)), 3072 + k)
+    ∷ (not (not (componentsWrong (getD d (k + 1) 0))), 3072 + (k + 1))
+    ∷ []
 
-  second-value : valueWrong vertexElementsRow d (k + 1) ≡ componentsWrong (getD d (k + 1) 0)
-  unfolding rows theRow groupSize valueRules ruleOf
-  second-value = value-at vertexElementsRow d (k + 1) 2 (spot-in 2 k 1 (g .0) (g .2) (omega arith) refl)
+-- the tests behind the first n of them decide
+abbrev Left : tie.Start → ℕ → Type 0
+Left s n = let k = s .args .k in let d = s .args .d .now in answered (drop n (tests d k)) 0 ≡ firstCoded ValueBroken (valueWrong vertexElementsRow d) k 2
 
-index : tie.Need-returns
-unfolding numberOf
-index c =
-    let read = c .before .before in
-    let start = read .before .before in
-    let k = start .args .k in
-    let h = high-index _ (read .shared-slice-known2 .given k .fits) (c .before .if1 .taken) in
-    c .at .ensures ∙ sym (found-at _ _ k 1 refl (first-value _ k (start .pre .0) ∙ rw (lt-ltb _ _ h)))
+all-left : (s : tie.Start) → Left s 0
+unfolding rows theRow groupSize valueRules ruleOf numberOf
+all-left s =
+    let d = s .args .d .now in
+    let k = s .args .k in
+    rw (Bool·not-not, Bool·not-not)
+    (one-by-one (ltb 32 (field (getD d k 0) 31 26)) (eqb (formatBits (field (getD d k 0) 24 16)) 0) (3072 + k)
+    (cond (componentsWrong (getD d (k + 1) 0)) (3072 + (k + 1)) 0)
+    ∙ in-two _ _ (s .args .k) (value-in vertexElementsRow refl _ _ (s .pre .0) 0 (omega arith) (omega arith) ∙ or-false (ltb 32 (field (getD d k 0) 31 26) || eqb (formatBits (field (getD d k 0) 24 16)) 0))
+    (value-in vertexElementsRow refl _ _ (s .pre .0) 1 (omega arith) refl))
 
-format : tie.Need-returns-2
-unfolding numberOf
-format c =
-    let known = c .before .before in
-    let start = known .before .before .before .before in
-    let k = start .args .k in
-    c .at2 .ensures
-    ∙ sym
-    (found-at _ _ k 1 refl
-    (first-value _ k (start .pre .0)
-    ∙ rw (le-ltb _ _ (low-index _ (known .before .if1 .left)))
-    (not-false _ (sym (known .known-format .ensures) ∙ not-true _ (c .before .if2 .taken)))))
+low : (c : tie.Else1) → Left (c .before .before .before) 1
+low c = passes _ _ (le-ltb _ _ (low-index _ (c .if1 .left))) (all-left (c .before .before .before))
 
-controls-good-requires : tie.Need-controls-good-requires
-controls-good-requires c κs = c .before .before .before .before .before .before .pre .1
-
-controls : tie.Need-returns-3
-unfolding numberOf
-controls c =
-    let good = c .before .before in
-    let known = good .before .before .before in
-    let start = known .before .before .before .before in
-    let k = start .args .k in
-    c .at3 .ensures
-    ∙ sym
-    (passed-at _ _ k 1 refl
-    (first-value _ k (start .pre .0)
-    ∙ rw (le-ltb _ _ (low-index _ (known .before .if1 .left)))
-    (not-true _ (sym (known .known-format .ensures) ∙ not-false _ (good .before .before .if2 .left))))
-    ∙ found-at _ _ (k + 1) 0 refl
-    (second-value _ k (start .pre .0) ∙ not-false _ (sym (good .controls-good .ensures) ∙ not-true _ (c .before .if3 .taken))))
-
-none : tie.Need-returns-4
-none c =
-    let good = c .before in
-    let known = good .before .before .before in
-    let start = known .before .before .before .before in
-    let k = start .args .k in
-    sym
-    (passed-at _ _ k 1 refl
-    (first-value _ k (start .pre .0)
-    ∙ rw (le-ltb _ _ (low-index _ (known .before .if1 .left)))
-    (not-true _ (sym (known .known-format .ensures) ∙ not-false _ (good .before .before .if2 .left))))
-    ∙ passed-at _ _ (k + 1) 0 refl
-    (second-value _ k (start .pre .0) ∙ not-true _ (sym (good .controls-good .ensures) ∙ not-false _ (c .if3 .left)))
-    ∙ none-left _ _ (k + 1 + 1))
+known : (c : tie.Else2) → Left (c .before .before .before .before .before) 2
+known c = passes _ _ (asked (c .before .known-format .ensures) (c .if2 .left)) (low (c .before .before))
 
 pub element-value-spec : {M : Type 1} → statement M
 element-value-spec =
     tie.close
-    (tie.spec (λ c. search needs) (λ c. search needs) (λ c κs. search needs) index (λ c κs. search needs) (λ c κs. search needs)
-    format (λ c. search needs) (λ c. search needs) (λ c. search needs)
-    controls-good-requires (λ c. search needs) (λ c κs. search needs) controls none)
+    (tie.spec (λ c. search needs) (λ c. search needs) (λ c κs. search needs)
+    (λ c.
+    let read = c .before .before in
+    let s = read .before .before in
+    let high = high-index _ (read .shared-slice-known2 .given (s .args .k) .fits) (c .before .if1 .taken) in
+    c .at .ensures ∙ refuses _ _ (lt-ltb _ _ high) (all-left s))
+    (λ c κs. search needs) (λ c κs. search needs)
+    (λ c. c .at2 .ensures ∙ refuses _ _ (asked (c .before .before .known-format .ensures) (c .before .if2 .taken)) (low (c .before .before .before)))
+    (λ c. search needs) (λ c. search needs) (λ c. search needs)
+    (λ c κs. c .before .before .before .before .before .before .pre .1) (λ c. search needs) (λ c κs. search needs)
+    (λ c. c .at3 .ensures ∙ refuses _ _ (asked (c .before .before .controls-good .ensures) (c .before .if3 .taken)) (known (c .before .before .before .before)))
+    (λ c. passes _ _ (asked (c .before .controls-good .ensures) (c .if3 .left)) (known (c .before .before .before))))
