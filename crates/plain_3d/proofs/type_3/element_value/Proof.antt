@@ -41,7 +41,8 @@ all-left s =
     rw (Bool·not-not, Bool·not-not)
     (one-by-one (ltb 32 (field (getD d k 0) 31 26)) (eqb (formatBits (field (getD d k 0) 24 16)) 0) (3072 + k)
     (cond (componentsWrong (getD d (k + 1) 0)) (3072 + (k + 1)) 0)
-    ∙ in-two _ _ (s .args .k) (value-in vertexElementsRow refl _ _ (s .pre .0) 0 (omega arith) (omega arith) ∙ or-false (ltb 32 (field (getD d k 0) 31 26) || eqb (formatBits (field (getD d k 0) 24 16)) 0))
+    ∙ in-two _ _ (s .args .k) (value-in vertexElementsRow refl _ _ (s .pre .0) 0 (omega arith) (omega arith)
+    ∙ or-false (ltb 32 (field (getD d k 0) 31 26) || eqb (formatBits (field (getD d k 0) 24 16)) 0))
     (value-in vertexElementsRow refl _ _ (s .pre .0) 1 (omega arith) refl))
 
 low : (c : tie.Else1) → Left (c .before .before .before) 1
