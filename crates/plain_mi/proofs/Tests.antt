@@ -133,10 +133,6 @@ refuses n later e f = ap (λ (t : Bool). cond t n later) (sym e) ∙ f
 pub passes : (n later : ℕ) {test : Bool} {answer : ℕ} → test ≡ false → cond test n later ≡ answer → later ≡ answer
 passes n later e f = ap (λ (t : Bool). cond t n later) (sym e) ∙ f
 
--- one test with its answer, where it is known how it goes
-pub answers : (n later : ℕ) {test taken : Bool} → test ≡ taken → cond taken n later ≡ cond test n later
-answers n later e = ap (λ (t : Bool). cond t n later) (sym e)
-
 -- tests behind which one answer stands, and then another: all pass, or one of them stops at the same number
 module _ (number : ℕ) (some : 0 < number) (bad : ℕ → Bool) where
   pub passed : (k n : ℕ) {first later : ℕ} → tested number bad k n first ≡ 0 → (first ≡ 0) × (tested number bad k n later ≡ later)
