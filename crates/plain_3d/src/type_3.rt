@@ -5,7 +5,7 @@ ghost use mathlib.Core.List.{[], _∷_};
 ghost use Prim.Native.Nat.{_+_, _*_, _%_, _≤_, _<_, _-_, _^_};
 ghost use lib.ListN.{length, getD};
 ghost use Rattle.rules.specs.declared.Level.the-variants.{First};
-ghost use Rattle.rules.specs.declared.Reason.the-variants.{BitNotAllowed, ValueBroken, RangeOutside};
+ghost use Rattle.rules.specs.declared.Reason.the-variants.{BitNotAllowed, ValueBroken};
 ghost use Rattle.rules.specs.Words.{bit, allowed};
 ghost use Rattle.rules.specs.Refusals.{batchWindow, refuseFound};
 ghost use Rattle.rules.specs.Commands.{pipeRow, selectRow, baseRow, indexBufferRow, topologyRow, viewportRow, colourRow, primitiveRow, rowOf, vertexBuffersRow, vertexElementsRow};

@@ -38,11 +38,12 @@ unfolding rows theRow groupSize valueRules ruleOf numberOf
 all-left s =
     let d = s .args .d .now in
     let k = s .args .k in
-    rw (Bool·not-not, Bool·not-not)
-    (one-by-one (ltb 32 (field (getD d k 0) 31 26)) (eqb (formatBits (field (getD d k 0) 24 16)) 0) (3072 + k)
-    (cond (componentsWrong (getD d (k + 1) 0)) (3072 + (k + 1)) 0)
-    ∙ in-two _ _ (s .args .k) (value-in vertexElementsRow refl _ _ (s .pre .0) 0 (omega arith) (omega arith)
-    ∙ or-false (ltb 32 (field (getD d k 0) 31 26) || eqb (formatBits (field (getD d k 0) 24 16)) 0))
+    let index = ltb 32 (field (getD d k 0) 31 26) in
+    let format = eqb (formatBits (field (getD d k 0) 24 16)) 0 in
+    let controls = componentsWrong (getD d (k + 1) 0) in
+    rw (Bool·not-not format, Bool·not-not controls)
+    (one-by-one index format (3072 + k) (cond controls (3072 + (k + 1)) 0)
+    ∙ in-two _ _ k (value-in vertexElementsRow refl _ _ (s .pre .0) 0 (omega arith) (omega arith) ∙ or-false (index || format))
     (value-in vertexElementsRow refl _ _ (s .pre .0) 1 (omega arith) refl))
 
 low : (c : tie.Else1) → Left (c .before .before .before) 1

@@ -4,7 +4,6 @@ use Prim.Native.Nat.{_+_}
 use native.Mathlib.Omega.{arith}
 use mathlib.Core.Path.{_≡_, refl, _∙_}
 use mathlib.Core.Bool.{cond, not}
-use mathlib.Core.List.{[], _∷_}
 use lib.ListN.{getD}
 use borrow.Author.Needs.{needs}
 use Rattle.rules.specs.declared.Reason.the-variants.{BitNotAllowed}
