@@ -1,4 +1,4 @@
-// What rows share: the length by the field, the header that is not the table's, a range of so many bytes.
+// What rows share: the length by the field, what can be wrong with a header, a range of so many bytes.
 ghost use mathlib.Core.Path.{_≡_};
 ghost use mathlib.Core.Bool.{not};
 ghost use Prim.Native.Nat.{_+_, _*_, _^_, _<_};
