@@ -1,6 +1,8 @@
 // A line in plain words for each capture that an argument names, and last the totals.
 ghost use Prim.Native.Nat.{_≤_};
 ghost use lib.ListN.{length};
+use causes::cause;
+use libc::SEEK_END;
 use libc::STDOUT_FILENO;
 use reports::ACCEPTED;
 use reports::MOST_BYTES;
@@ -8,6 +10,8 @@ use reports::REFUSED;
 use reports::UNREAD;
 use reports::worse;
 use rules::Answer;
+use rules::Opened;
+use sentences::Detail;
 use sentences::Unread;
 use sentences::accepted_line;
 use sentences::refused_line;
@@ -15,10 +19,11 @@ use sentences::totals_line;
 use sentences::unread_line;
 use std::num::wrapping_add_u64;
 
-// The answer for a capture, and the dword at its place.
+// The answer for a capture, the dword at its place, and what happened there.
 struct Finding {
     answer: Answer,
     dword: u32,
+    detail: Detail,
 }
 
 // The status of a file, and whether its line was written.
@@ -40,7 +45,36 @@ fn dword_at(words: &[u32], index: u32) -> u32 {
     if at < words.len() { words[at] } else { 0 }
 }
 
-fn look(file: &[u8]) -> Finding {
+// What a refused command did, by the words that the capture fills.
+fn caused(batch: &[u32], count: usize, batch_at: u64, records: &[u32], answer: Answer) -> Detail {
+    if batch.len() < count {
+        return Detail::NoMore;
+    }
+    if records.len() < answer.count as usize {
+        return Detail::NoMore;
+    }
+    cause(&batch[..count], batch_at, records, answer)
+}
+
+// What a refused command did. The file is read a second time, for the batch's address and length.
+fn command_detail(
+    file: &[u8],
+    batch: &mut [u32],
+    state: &mut [u32],
+    records: &[u32],
+    answer: Answer,
+) -> Detail {
+    match capture::read(file, batch, state) {
+        Opened::NotRead(_) => Detail::NoMore,
+        Opened::Holds(contents) => {
+            let filled = contents.batch;
+            caused(batch, filled.count, filled.at, records, answer)
+        }
+    }
+}
+
+// Only 10 to 13 tell of a command, and 19 of the file's size.
+fn look(file: &[u8], size: Detail) -> Finding {
     let mut batch = [0u32; 4096];
     let mut state = [0u32; 4096];
     let mut records = [0u32; 4096];
@@ -50,7 +84,17 @@ fn look(file: &[u8]) -> Finding {
     } else {
         dword_at(&state, answer.index)
     };
-    Finding { answer, dword }
+    let reason = answer.reason;
+    let detail = match reason {
+        10..=13 => command_detail(file, &mut batch, &mut state, &records, answer),
+        19 => size,
+        _ => Detail::NoMore,
+    };
+    Finding {
+        answer,
+        dword,
+        detail,
+    }
 }
 
 fn write_front(line: &[u8], end: usize) -> bool
@@ -107,7 +151,8 @@ fn tell_found(name: &[u8], found: Finding) -> Told
             written: write_line(&line, end),
         };
     }
-    let end = refused_line(&mut line, name, answer, found.dword);
+    let detail = found.detail;
+    let end = refused_line(&mut line, name, answer, found.dword, detail);
     Told {
         status: REFUSED,
         written: write_line(&line, end),
@@ -120,6 +165,32 @@ fn at_end(fd: i32) -> bool {
     libc::read(fd, &mut byte) == 0
 }
 
+// A size that is more than any capture has; a smaller one is not told, since more bytes than that were read.
+fn large(size: u64) -> Detail {
+    if size < MOST_BYTES as u64 {
+        Detail::HasTooMany
+    } else {
+        Detail::HasBytes(size)
+    }
+}
+
+// The size by where the system says that a file ends; it does not say it of a pipe.
+fn size_by_end(end: i64) -> Detail {
+    if end > 0 {
+        large(end as u64)
+    } else {
+        Detail::HasTooMany
+    }
+}
+
+// The size of a file of which so many bytes were read.
+fn size_of(fd: i32, read: usize) -> Detail {
+    if read < MOST_BYTES {
+        return Detail::HasBytes(read as u64);
+    }
+    size_by_end(libc::lseek(fd, 0, SEEK_END))
+}
+
 // The line of an open file. A longer file than any capture is not read further.
 fn audit_open(fd: i32, name: &[u8]) -> Told
     requires { ⌜ length (now name) ≤ 4096 ⌝ }
@@ -129,7 +200,7 @@ fn audit_open(fd: i32, name: &[u8]) -> Told
     if n < MOST_BYTES && !at_end(fd) {
         return tell_unread(name);
     }
-    tell_found(name, look(&bytes[..n]))
+    tell_found(name, look(&bytes[..n], size_of(fd, n)))
 }
 
 fn audit_file(name: &mut [u8]) -> Told

@@ -44,7 +44,7 @@ pub fn answer_line(out: &mut [u8; 128], answer: Answer) -> usize
 }
 
 // What a record says.
-fn command(word: u32) -> Command
+pub fn command(word: u32) -> Command
     ensures { λ r. ⌜ r ≡ commandOf word ⌝ }
 {
     let bits = word as usize;

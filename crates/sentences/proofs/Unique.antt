@@ -7,6 +7,7 @@ use Rattle.rules.specs.declared.Answer.{Answer}
 use Rattle.lines.specs.Lines.{Line}
 use Rattle.lines.proofs.Unique.{one-line}
 use Rattle.sentences.specs.declared.Unread.{Unread}
+use Rattle.sentences.specs.declared.Detail.{Detail}
 use Rattle.sentences.specs.Lines.{acceptedLine, refusedLine, unreadLine, totalsLine}
 
 module _ {old new new′ : List ℕ} {r r′ : ℕ} where
@@ -14,9 +15,9 @@ module _ {old new new′ : List ℕ} {r r′ : ℕ} where
       → Line (acceptedLine name count) old r′ new′ → (r ≡ r′) × (new ≡ new′)
   accepted-line-unique name count = one-line
 
-  pub refused-line-unique : (name : List ℕ) (answer : Answer) (dword : ℕ) → Line (refusedLine name answer dword) old r new
-      → Line (refusedLine name answer dword) old r′ new′ → (r ≡ r′) × (new ≡ new′)
-  refused-line-unique name answer dword = one-line
+  pub refused-line-unique : (name : List ℕ) (answer : Answer) (dword : ℕ) (detail : Detail)
+      → Line (refusedLine name answer dword detail) old r new → Line (refusedLine name answer dword detail) old r′ new′ → (r ≡ r′) × (new ≡ new′)
+  refused-line-unique name answer dword detail = one-line
 
   pub unread-line-unique : (name : List ℕ) (why : Unread) → Line (unreadLine name why) old r new
       → Line (unreadLine name why) old r′ new′ → (r ≡ r′) × (new ≡ new′)

@@ -4,10 +4,13 @@ use mathlib.Core.Bool.{cond}
 use mathlib.Core.List.{List, [], _++_}
 use lib.Dec.{eqb, ltb}
 use Rattle.rules.specs.declared.Answer.{Answer}
+use Rattle.rules.specs.declared.Within.{Within}
 use Rattle.rules.specs.Printout.{decimal, bytes}
 use Rattle.sentences.specs.declared.Unread.{Unread}
+use Rattle.sentences.specs.declared.Detail.{Detail}
+use Rattle.sentences.specs.declared.Detail.the-variants.{NoMore, InCommand, Reach, HasBytes, HasTooMany}
 use Rattle.sentences.specs.Hexadecimal.{hexDigits}
-use Rattle.sentences.specs.Words.{reasonWords, unreadWords}
+use Rattle.sentences.specs.Words.{reasonWords, commandWords, accessWords, withinWords, unreadWords}
 
 -- "1 command", "214 commands"
 unfoldable pub commandsText : ℕ → List ℕ
@@ -33,14 +36,45 @@ progressText a dword =
     cond (ltb (a .reason) 5) []
     (cond (ltb 18 (a .reason)) [] (placeText a dword ++ bytes " after " ++ commandsText (a .count)))
 
+-- "1 byte", "4 bytes"
+unfoldable pub bytesText : ℕ → List ℕ
+bytesText n = decimal n ++ cond (eqb n 1) (bytes " byte") (bytes " bytes")
+
+-- ": MI_STORE_DATA_IMM"
+unfoldable pub commandText : ℕ → List ℕ
+commandText row = bytes ": " ++ commandWords row
+
+-- an address, which has 48 bits: " at 000000301000h"
+unfoldable pub addressText : ℕ → List ℕ
+addressText address = bytes " at " ++ hexDigits 12 address ++ bytes "h"
+
+-- ": MI_STORE_DATA_IMM, store to 4 bytes at 000000301000h, which should lie in scratch"
+unfoldable pub reachText : ℕ → ℕ → ℕ → Within → List ℕ
+reachText row address length within =
+    commandText row ++ (bytes ", " ++ accessWords row) ++ (bytes " " ++ bytesText length) ++ addressText address
+    ++ (bytes ", which should lie in " ++ withinWords within)
+
+-- ": it is empty", ": it has 39 bytes"
+unfoldable pub sizeText : ℕ → List ℕ
+sizeText n = cond (eqb n 0) (bytes ": it is empty") (bytes ": it has " ++ bytesText n)
+
+-- what happened, behind the words for the reason
+unfoldable pub detailText : Detail → List ℕ
+detailText NoMore = []
+detailText (InCommand row) = commandText row
+detailText (Reach row address length within) = reachText row address length within
+detailText (HasBytes n) = sizeText n
+detailText HasTooMany = bytes ": it has over 32,808 bytes"
+
 -- "a.capture: accepted, 214 commands"
 unfoldable pub acceptedLine : List ℕ → ℕ → List ℕ
 acceptedLine name count = name ++ bytes ": accepted, " ++ commandsText count ++ bytes "\n"
 
--- "a.capture: refused, 13 at batch dword 2 (00301000h) after 1 command: an address range does not fit"
-unfoldable pub refusedLine : List ℕ → Answer → ℕ → List ℕ
-refusedLine name a dword =
-    name ++ bytes ": refused, " ++ decimal (a .reason) ++ progressText a dword ++ bytes ": " ++ reasonWords (a .reason) ++ bytes "\n"
+-- "a.capture: refused, 12 at batch dword 2 (00002000h) after 1 command: a value is not allowed: MI_LOAD_REGISTER_IMM"
+unfoldable pub refusedLine : List ℕ → Answer → ℕ → Detail → List ℕ
+refusedLine name a dword detail =
+    name ++ bytes ": refused, " ++ decimal (a .reason) ++ progressText a dword ++ bytes ": " ++ reasonWords (a .reason) ++ detailText detail
+    ++ bytes "\n"
 
 -- "a.capture: unread: there is no such file"
 unfoldable pub unreadLine : List ℕ → Unread → List ℕ

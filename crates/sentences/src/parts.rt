@@ -65,7 +65,7 @@ fn hex_digit(n: usize) -> u8
 }
 
 // The last `count` hexadecimal digits of n.
-fn put_hex(line: &mut [u8], at: usize, count: usize, n: usize) -> usize
+pub fn put_hex(line: &mut [u8], at: usize, count: usize, n: usize) -> usize
     requires { ⌜ at + count ≤ length (now line) ⌝ }
     ensures { λ r. ⌜ Put at count (hexDigits count n) (now (line .entry)) r (now (line .exit)) ⌝ }
 {

@@ -1,12 +1,14 @@
 // The tables of words. A row is filled up with spaces: so a table is one constant, which the check takes in less time than an arm for each text.
 use crate::Unread;
 use lines::put_text;
+use rules::Within;
+use rules::names::ROWS;
 ghost use Prim.Native.Nat.{_+_, _≤_};
 ghost use mathlib.Core.Path.{_≡_};
 ghost use lib.ListN.{length};
 ghost use Rattle.lines.specs.Lines.{Put};
 ghost use Rattle.sentences.specs.Rows.{trimmed, Width};
-ghost use Rattle.sentences.specs.Words.{reasonWords, unreadWords};
+ghost use Rattle.sentences.specs.Words.{reasonWords, commandWords, accessWords, withinWords, unreadWords};
 
 // What each of document 01's numbers means, from 0 on, which is no reason.
 const REASONS: [[u8; 64]; 22] = [
@@ -28,10 +30,52 @@ const REASONS: [[u8; 64]; 22] = [
     *b"the structure lies in neither the batch nor the state window    ",
     *b"a structure has a bit set that is not allowed                   ",
     *b"a value in a structure is not allowed                           ",
-    *b"the list of commands is full                                    ",
+    *b"the run has not ended after 4,096 commands                      ",
     *b"the file is shorter than its trailer or longer than any capture ",
     *b"the length of the file and its trailer do not agree             ",
     *b"a lent buffer is too short                                      ",
+];
+
+// The commands of document 01's table, by row.
+const COMMANDS: [[u8; 64]; ROWS] = [
+    *b"MI_NOOP                                                         ",
+    *b"MI_BATCH_BUFFER_END                                             ",
+    *b"MI_BATCH_BUFFER_START                                           ",
+    *b"MI_LOAD_REGISTER_IMM                                            ",
+    *b"MI_STORE_DATA_IMM                                               ",
+    *b"MI_STORE_REGISTER_MEM                                           ",
+    *b"MI_LOAD_REGISTER_MEM                                            ",
+    *b"PIPE_CONTROL                                                    ",
+    *b"PIPELINE_SELECT                                                 ",
+    *b"STATE_BASE_ADDRESS                                              ",
+    *b"3DSTATE_VERTEX_BUFFERS                                          ",
+    *b"3DSTATE_VERTEX_ELEMENTS                                         ",
+    *b"3DSTATE_INDEX_BUFFER                                            ",
+    *b"3DSTATE_VF_TOPOLOGY                                             ",
+    *b"3DSTATE_VIEWPORT_STATE_POINTERS_CC                              ",
+    *b"3DSTATE_CC_STATE_POINTERS                                       ",
+    *b"3DPRIMITIVE                                                     ",
+];
+
+// What the command of a row does with its address; most have none.
+const ACCESSES: [[u8; 64]; ROWS] = [
+    *b"                                                                ",
+    *b"                                                                ",
+    *b"jump to                                                         ",
+    *b"                                                                ",
+    *b"store to                                                        ",
+    *b"store to                                                        ",
+    *b"load from                                                       ",
+    *b"store to                                                        ",
+    *b"                                                                ",
+    *b"                                                                ",
+    *b"vertex buffer of                                                ",
+    *b"                                                                ",
+    *b"index buffer of                                                 ",
+    *b"                                                                ",
+    *b"                                                                ",
+    *b"                                                                ",
+    *b"                                                                ",
 ];
 
 // A number that is no reason has no words.
@@ -40,6 +84,38 @@ pub fn reason_row(reason: u32) -> [u8; 64]
 {
     let i = reason as usize;
     if i < 22 { REASONS[i] } else { [b' '; 64] }
+}
+
+// A number that is no row has no name.
+pub fn command_row(row: usize) -> [u8; 64]
+    ensures { λ r. ⌜ trimmed r ≡ commandWords row ⌝ }
+{
+    if row < ROWS {
+        COMMANDS[row]
+    } else {
+        [b' '; 64]
+    }
+}
+
+pub fn access_row(row: usize) -> [u8; 64]
+    ensures { λ r. ⌜ trimmed r ≡ accessWords row ⌝ }
+{
+    if row < ROWS {
+        ACCESSES[row]
+    } else {
+        [b' '; 64]
+    }
+}
+
+// Where an address range should lie.
+pub fn within_row(within: Within) -> [u8; 64]
+    ensures { λ r. ⌜ trimmed r ≡ withinWords within ⌝ }
+{
+    match within {
+        Within::BatchOnly => *b"the batch                                                       ",
+        Within::ScratchOnly => *b"scratch                                                         ",
+        Within::AnyWindow => *b"one window                                                      ",
+    }
 }
 
 // Why the system did not give a file.
