@@ -1,6 +1,7 @@
 // A line in plain words for each capture that an argument names, and last the totals.
 ghost use Prim.Native.Nat.{_≤_};
 ghost use lib.ListN.{length};
+ghost use Rattle.sentences.specs.Lines.{nameBytes};
 use causes::cause;
 use libc::SEEK_END;
 use libc::STDOUT_FILENO;
@@ -12,8 +13,10 @@ use reports::worse;
 use rules::Answer;
 use rules::Opened;
 use sentences::Detail;
+use sentences::LINE_BYTES;
 use sentences::Unread;
 use sentences::accepted_line;
+use sentences::is_missing;
 use sentences::refused_line;
 use sentences::totals_line;
 use sentences::unread_line;
@@ -26,16 +29,24 @@ struct Finding {
     detail: Detail,
 }
 
-// The status of a file, and whether its line was written.
+// The status of a file, whether it is missing, and whether its line was written.
 struct Told {
     status: u8,
+    missing: bool,
     written: bool,
+}
+
+// What came of reading a file to its end.
+enum Rest {
+    Ended,
+    Lost(Unread),
 }
 
 struct Totals {
     accepted: u64,
     refused: u64,
     unread: u64,
+    missing: u64,
     worst: u8,
 }
 
@@ -104,16 +115,24 @@ fn write_front(line: &[u8], end: usize) -> bool
 }
 
 // A line is written whole, so that the lines of audits that run side by side do not mix.
-fn write_line(line: &[u8; 4608], end: usize) -> bool
-    requires { ⌜ end ≤ 4608 ⌝ }
+fn write_line(line: &[u8; LINE_BYTES], end: usize) -> bool
+    requires { ⌜ end ≤ 16896 ⌝ }
 {
     write_front(line, end)
 }
 
-// Why the system did not give a file.
+// An error's number: the system has none below 1.
+fn number(error: i32) -> usize {
+    if error > 0 { error as usize } else { 0 }
+}
+
+// Why the system did not give a file. A file is not there either where a part of its path is no folder.
 fn why() -> Unread {
     let error = os::errno();
     if error == libc::ENOENT {
+        return Unread::NoSuchFile;
+    }
+    if error == libc::ENOTDIR {
         return Unread::NoSuchFile;
     }
     if error == libc::EACCES {
@@ -125,29 +144,31 @@ fn why() -> Unread {
     if error == libc::ENAMETOOLONG {
         return Unread::NameTooLong;
     }
-    Unread::Other
+    Unread::Other(number(error))
 }
 
-fn tell_unread(name: &[u8]) -> Told
-    requires { ⌜ length (now name) ≤ 4096 ⌝ }
+fn tell_unread(name: &[u8], why: Unread) -> Told
+    requires { ⌜ length (now name) ≤ nameBytes ⌝ }
 {
-    let mut line = [0u8; 4608];
-    let end = unread_line(&mut line, name, why());
+    let mut line = [0u8; LINE_BYTES];
+    let end = unread_line(&mut line, name, why);
     Told {
         status: UNREAD,
+        missing: is_missing(why),
         written: write_line(&line, end),
     }
 }
 
 fn tell_found(name: &[u8], found: Finding) -> Told
-    requires { ⌜ length (now name) ≤ 4096 ⌝ }
+    requires { ⌜ length (now name) ≤ nameBytes ⌝ }
 {
-    let mut line = [0u8; 4608];
+    let mut line = [0u8; LINE_BYTES];
     let answer = found.answer;
     if answer.reason == 0 {
         let end = accepted_line(&mut line, name, answer.count);
         return Told {
             status: ACCEPTED,
+            missing: false,
             written: write_line(&line, end),
         };
     }
@@ -155,14 +176,22 @@ fn tell_found(name: &[u8], found: Finding) -> Told
     let end = refused_line(&mut line, name, answer, found.dword, detail);
     Told {
         status: REFUSED,
+        missing: false,
         written: write_line(&line, end),
     }
 }
 
-// Whether a file has ended: only a read that gives nothing shows it.
-fn at_end(fd: i32) -> bool {
+// Whether a file has ended: only a read that gives nothing shows it. One that gives a byte shows that the file has grown meanwhile.
+fn read_on(fd: i32) -> Rest {
     let mut byte = [0u8; 1];
-    libc::read(fd, &mut byte) == 0
+    let got = libc::read(fd, &mut byte);
+    if got == 0 {
+        return Rest::Ended;
+    }
+    if got > 0 {
+        return Rest::Lost(Unread::Changed);
+    }
+    Rest::Lost(why())
 }
 
 // A size that is more than any capture has; a smaller one is not told, since more bytes than that were read.
@@ -193,23 +222,25 @@ fn size_of(fd: i32, read: usize) -> Detail {
 
 // The line of an open file. A longer file than any capture is not read further.
 fn audit_open(fd: i32, name: &[u8]) -> Told
-    requires { ⌜ length (now name) ≤ 4096 ⌝ }
+    requires { ⌜ length (now name) ≤ nameBytes ⌝ }
 {
     let mut bytes = [0u8; MOST_BYTES];
     let n = io::read_full(fd, &mut bytes);
-    if n < MOST_BYTES && !at_end(fd) {
-        return tell_unread(name);
+    if n < MOST_BYTES {
+        if let Rest::Lost(why) = read_on(fd) {
+            return tell_unread(name, why);
+        }
     }
     tell_found(name, look(&bytes[..n], size_of(fd, n)))
 }
 
 fn audit_file(name: &mut [u8]) -> Told
-    requires { ⌜ length (now name) ≤ 4096 ⌝ }
+    requires { ⌜ length (now name) ≤ nameBytes ⌝ }
 {
     let fd = os::open_read(name);
     reports::plain(name);
     if fd < 0 {
-        return tell_unread(name);
+        return tell_unread(name, why());
     }
     let told = audit_open(fd, name);
     libc::close(fd);
@@ -237,7 +268,8 @@ fn counted(t: Totals, told: Told) -> Totals {
     Totals {
         accepted: wrapping_add_u64(t.accepted, one_if(status == ACCEPTED)),
         refused: wrapping_add_u64(t.refused, one_if(status == REFUSED)),
-        unread: wrapping_add_u64(t.unread, one_if(status == UNREAD)),
+        unread: wrapping_add_u64(t.unread, one_if(status == UNREAD && !told.missing)),
+        missing: wrapping_add_u64(t.missing, one_if(told.missing)),
         worst: worse(worse(t.worst, status), lost),
     }
 }
@@ -247,6 +279,7 @@ fn audit_arguments(count: usize) -> Totals {
         accepted: 0,
         refused: 0,
         unread: 0,
+        missing: 0,
         worst: ACCEPTED,
     };
     let mut i = 1;
@@ -258,8 +291,8 @@ fn audit_arguments(count: usize) -> Totals {
 }
 
 fn write_totals(t: Totals) -> bool {
-    let mut line = [0u8; 4608];
-    let end = totals_line(&mut line, t.accepted, t.refused, t.unread);
+    let mut line = [0u8; LINE_BYTES];
+    let end = totals_line(&mut line, t.accepted, t.refused, t.unread, t.missing);
     write_line(&line, end)
 }
 

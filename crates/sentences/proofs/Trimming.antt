@@ -10,7 +10,7 @@ use lib.Seq.{take-suc, take-length, length-take-le}
 use borrow.Author.Tests.{ne-eqb}
 use Prim.Native.String.{String}
 use Rattle.rules.specs.Printout.{bytes}
-use Rattle.sentences.specs.Words.{wordsIn, reasonTable, commandTable, accessTable}
+use Rattle.sentences.specs.Words.{wordsIn, reasonTable, commandTable, accessTable, errorTable}
 use Rattle.sentences.specs.Rows.{inFront, trimmed, Width}
 
 space-goes : (row : List ℕ) → trimmed (row ++ (32 ∷ [])) ≡ trimmed row
@@ -87,6 +87,10 @@ commands-say = refl
 pub accesses-say : Says accessTable
 unfolding accessTable filled rowsOf trimmed
 accesses-say = refl
+
+pub errors-say : Says errorTable
+unfolding errorTable filled rowsOf trimmed
+errors-say = refl
 
 pub row-says : (table : List String) → Says table → (i : ℕ) → trimmed (getD (rowsOf table) i []) ≡ wordsIn table i
 unfolding trimmed wordsIn

@@ -8,7 +8,7 @@ use Rattle.lines.specs.Lines.{Line}
 use Rattle.lines.proofs.Unique.{one-line}
 use Rattle.sentences.specs.declared.Unread.{Unread}
 use Rattle.sentences.specs.declared.Detail.{Detail}
-use Rattle.sentences.specs.Lines.{acceptedLine, refusedLine, unreadLine, totalsLine}
+use Rattle.sentences.specs.Lines.{refusedWords, unreadWords, acceptedLine, refusedLine, unreadLine, totalsLine}
 
 module _ {old new new′ : List ℕ} {r r′ : ℕ} where
   pub accepted-line-unique : (name : List ℕ) (count : ℕ) → Line (acceptedLine name count) old r new
@@ -23,6 +23,13 @@ module _ {old new new′ : List ℕ} {r r′ : ℕ} where
       → Line (unreadLine name why) old r′ new′ → (r ≡ r′) × (new ≡ new′)
   unread-line-unique name why = one-line
 
-  pub totals-line-unique : (accepted refused unread : ℕ) → Line (totalsLine accepted refused unread) old r new
-      → Line (totalsLine accepted refused unread) old r′ new′ → (r ≡ r′) × (new ≡ new′)
-  totals-line-unique accepted refused unread = one-line
+  pub totals-line-unique : (accepted refused unread missing : ℕ) → Line (totalsLine accepted refused unread missing) old r new
+      → Line (totalsLine accepted refused unread missing) old r′ new′ → (r ≡ r′) × (new ≡ new′)
+  totals-line-unique accepted refused unread missing = one-line
+
+  pub refused-words-unique : (reason : ℕ) (detail : Detail) → Line (refusedWords reason detail) old r new
+      → Line (refusedWords reason detail) old r′ new′ → (r ≡ r′) × (new ≡ new′)
+  refused-words-unique reason detail = one-line
+
+  pub unread-words-unique : (why : Unread) → Line (unreadWords why) old r new → Line (unreadWords why) old r′ new′ → (r ≡ r′) × (new ≡ new′)
+  unread-words-unique why = one-line

@@ -1,16 +1,17 @@
 -- The lines of audit: each kind from its first byte to the line feed, and the parts that it is made of.
 use Prim.Native.Nat.{ℕ}
-use mathlib.Core.Bool.{cond}
+use mathlib.Core.Bool.{Bool, true, false, cond}
 use mathlib.Core.List.{List, [], _++_}
 use lib.Dec.{eqb, ltb}
 use Rattle.rules.specs.declared.Answer.{Answer}
 use Rattle.rules.specs.declared.Within.{Within}
 use Rattle.rules.specs.Printout.{decimal, bytes}
 use Rattle.sentences.specs.declared.Unread.{Unread}
+use Rattle.sentences.specs.declared.Unread.the-variants.{NoSuchFile, NotAllowed, Folder, NameTooLong, Changed, Other}
 use Rattle.sentences.specs.declared.Detail.{Detail}
 use Rattle.sentences.specs.declared.Detail.the-variants.{NoMore, InCommand, Reach, HasBytes, HasTooMany}
 use Rattle.sentences.specs.Hexadecimal.{hexDigits}
-use Rattle.sentences.specs.Words.{reasonWords, commandWords, accessWords, withinWords, unreadWords}
+use Rattle.sentences.specs.Words.{reasonWords, commandWords, accessWords, withinWords, errorWords}
 
 -- "1 command", "214 commands"
 unfoldable pub commandsText : ℕ → List ℕ
@@ -66,6 +67,36 @@ detailText (Reach row address length within) = reachText row address length with
 detailText (HasBytes n) = sizeText n
 detailText HasTooMany = bytes ": it has over 32,808 bytes"
 
+-- why a capture is refused: the words for the reason, and what happened
+unfoldable pub refusedWords : ℕ → Detail → List ℕ
+refusedWords reason detail = reasonWords reason ++ detailText detail
+
+-- an error of the system: "Input/output error", or by its number alone, "error 117"
+unfoldable pub errorText : ℕ → List ℕ
+errorText error = cond (ltb 40 error) (bytes "error " ++ decimal error) (errorWords error)
+
+-- why the system did not give a file
+unfoldable pub unreadWords : Unread → List ℕ
+unreadWords NoSuchFile = bytes "there is no such file"
+unreadWords NotAllowed = bytes "it may not be read"
+unreadWords Folder = bytes "it is a folder"
+unreadWords NameTooLong = bytes "the name is longer than the system takes"
+unreadWords Changed = bytes "it changed while it was read"
+unreadWords (Other error) = bytes "it cannot be read: " ++ errorText error
+
+-- a file that is not there is missing, and any other that was not read is unread
+unfoldable pub isMissing : Unread → Bool
+isMissing NoSuchFile = true
+isMissing NotAllowed = false
+isMissing Folder = false
+isMissing NameTooLong = false
+isMissing Changed = false
+isMissing (Other error) = false
+
+-- how many bytes the name of a file has at most, as it is shown: 4,096, each of which can become four, as `\xNN`
+abbrev pub nameBytes : ℕ
+nameBytes = 16384
+
 -- "a.capture: accepted, 214 commands"
 unfoldable pub acceptedLine : List ℕ → ℕ → List ℕ
 acceptedLine name count = name ++ bytes ": accepted, " ++ commandsText count ++ bytes "\n"
@@ -73,14 +104,14 @@ acceptedLine name count = name ++ bytes ": accepted, " ++ commandsText count ++ 
 -- "a.capture: refused, 12 at batch dword 2 (00002000h) after 1 command: a value is not allowed: MI_LOAD_REGISTER_IMM"
 unfoldable pub refusedLine : List ℕ → Answer → ℕ → Detail → List ℕ
 refusedLine name a dword detail =
-    name ++ bytes ": refused, " ++ decimal (a .reason) ++ progressText a dword ++ bytes ": " ++ reasonWords (a .reason) ++ detailText detail
-    ++ bytes "\n"
+    name ++ bytes ": refused, " ++ decimal (a .reason) ++ progressText a dword ++ bytes ": " ++ refusedWords (a .reason) detail ++ bytes "\n"
 
--- "a.capture: unread: there is no such file"
+-- "a.capture: missing: there is no such file", "a.capture: unread: it is a folder"
 unfoldable pub unreadLine : List ℕ → Unread → List ℕ
-unreadLine name why = name ++ bytes ": unread: " ++ unreadWords why ++ bytes "\n"
+unreadLine name why = name ++ cond (isMissing why) (bytes ": missing: ") (bytes ": unread: ") ++ unreadWords why ++ bytes "\n"
 
--- "2 accepted, 1 refused, 0 unread"
-unfoldable pub totalsLine : ℕ → ℕ → ℕ → List ℕ
-totalsLine accepted refused unread =
-    (decimal accepted ++ bytes " accepted, ") ++ (decimal refused ++ bytes " refused, ") ++ (decimal unread ++ bytes " unread\n")
+-- "2 accepted, 1 refused, 0 unread, 0 missing"
+unfoldable pub totalsLine : ℕ → ℕ → ℕ → ℕ → List ℕ
+totalsLine accepted refused unread missing =
+    (decimal accepted ++ bytes " accepted, ") ++ (decimal refused ++ bytes " refused, ") ++ (decimal unread ++ bytes " unread, ")
+    ++ (decimal missing ++ bytes " missing\n")

@@ -1,10 +1,8 @@
--- The words of audit's lines: for the reasons of document 01, its commands and what they use, and for why a file was not read.
+-- The words of audit's lines: for the reasons of document 01, its commands and what they use, and the system's errors.
 use Prim.Native.Nat.{ℕ}
 use Prim.Native.String.{String}
 use mathlib.Core.List.{List, [], _∷_}
 use lib.ListN.{getD}
-use Rattle.sentences.specs.declared.Unread.{Unread}
-use Rattle.sentences.specs.declared.Unread.the-variants.{NoSuchFile, NotAllowed, Folder, NameTooLong, Other}
 use Rattle.rules.specs.declared.Within.{Within}
 use Rattle.rules.specs.declared.Within.the-variants.{BatchOnly, ScratchOnly, AnyWindow}
 use Rattle.rules.specs.Printout.{bytes}
@@ -86,10 +84,51 @@ withinWords BatchOnly = bytes "the batch"
 withinWords ScratchOnly = bytes "scratch"
 withinWords AnyWindow = bytes "one window"
 
--- why the system did not give a file
-unfoldable pub unreadWords : Unread → List ℕ
-unreadWords NoSuchFile = bytes "there is no such file"
-unreadWords NotAllowed = bytes "it may not be read"
-unreadWords Folder = bytes "it is a folder"
-unreadWords NameTooLong = bytes "the name is longer than the system takes"
-unreadWords Other = bytes "it cannot be read"
+-- the system's errors from 0 on, which is none, to 40, in its own words
+unfoldable pub errorTable : List String
+errorTable =
+    "no reason is known"
+    ∷ "Operation not permitted"
+    ∷ "No such file or directory"
+    ∷ "No such process"
+    ∷ "Interrupted system call"
+    ∷ "Input/output error"
+    ∷ "No such device or address"
+    ∷ "Argument list too long"
+    ∷ "Exec format error"
+    ∷ "Bad file descriptor"
+    ∷ "No child processes"
+    ∷ "Resource temporarily unavailable"
+    ∷ "Cannot allocate memory"
+    ∷ "Permission denied"
+    ∷ "Bad address"
+    ∷ "Block device required"
+    ∷ "Device or resource busy"
+    ∷ "File exists"
+    ∷ "Invalid cross-device link"
+    ∷ "No such device"
+    ∷ "Not a directory"
+    ∷ "Is a directory"
+    ∷ "Invalid argument"
+    ∷ "Too many open files in system"
+    ∷ "Too many open files"
+    ∷ "Inappropriate ioctl for device"
+    ∷ "Text file busy"
+    ∷ "File too large"
+    ∷ "No space left on device"
+    ∷ "Illegal seek"
+    ∷ "Read-only file system"
+    ∷ "Too many links"
+    ∷ "Broken pipe"
+    ∷ "Numerical argument out of domain"
+    ∷ "Numerical result out of range"
+    ∷ "Resource deadlock avoided"
+    ∷ "File name too long"
+    ∷ "No locks available"
+    ∷ "Function not implemented"
+    ∷ "Directory not empty"
+    ∷ "Too many levels of symbolic links"
+    ∷ []
+
+abbrev pub errorWords : ℕ → List ℕ
+errorWords error = wordsIn errorTable error

@@ -1,10 +1,11 @@
-// What happened, behind the words for a reason: each part is put at a place, and the place behind it comes back, as in `parts`.
+// Why a capture is refused, in words, and what happened: each part is put at a place, and the place behind it comes back, as in `parts`.
 use crate::Detail;
 use crate::parts::put_count;
 use crate::parts::put_hex;
 use crate::words::access_row;
 use crate::words::command_row;
 use crate::words::put_row;
+use crate::words::reason_row;
 use crate::words::within_row;
 use lines::put_text;
 use rules::Within;
@@ -13,10 +14,10 @@ ghost use mathlib.Core.List.{_++_};
 ghost use lib.ListN.{length};
 ghost use Rattle.lines.specs.Lines.{Put};
 ghost use Rattle.sentences.specs.Rows.{trimmed};
-ghost use Rattle.sentences.specs.Lines.{bytesText, commandText, addressText, reachText, sizeText, detailText};
+ghost use Rattle.sentences.specs.Lines.{bytesText, commandText, addressText, reachText, sizeText, detailText, refusedWords};
 
 // A text, and the words of a row behind it.
-fn put_words(line: &mut [u8], at: usize, text: &[u8], row: [u8; 64]) -> usize
+pub fn put_words(line: &mut [u8], at: usize, text: &[u8], row: [u8; 64]) -> usize
     requires { ⌜ at + (length (now text) + 64) ≤ length (now line) ⌝ }
     ensures { λ r.
         ⌜ Put at (length (now (text .entry)) + 64) (now (text .entry) ++ trimmed row) (now (line .entry)) r (now (line .exit)) ⌝ }
@@ -84,7 +85,7 @@ fn put_size(line: &mut [u8], at: usize, n: u64) -> usize
     put_bytes(line, number, n)
 }
 
-pub fn put_detail(line: &mut [u8], at: usize, detail: Detail) -> usize
+fn put_detail(line: &mut [u8], at: usize, detail: Detail) -> usize
     requires { ⌜ at + 262 ≤ length (now line) ⌝ }
     ensures { λ r. ⌜ Put at 262 (detailText detail) (now (line .entry)) r (now (line .exit)) ⌝ }
 {
@@ -97,4 +98,12 @@ pub fn put_detail(line: &mut [u8], at: usize, detail: Detail) -> usize
         Detail::HasBytes(n) => put_size(line, at, n),
         Detail::HasTooMany => put_text(line, at, b": it has over 32,808 bytes"),
     }
+}
+
+pub fn put_refusal(line: &mut [u8], at: usize, reason: u32, detail: Detail) -> usize
+    requires { ⌜ at + 326 ≤ length (now line) ⌝ }
+    ensures { λ r. ⌜ Put at 326 (refusedWords reason detail) (now (line .entry)) r (now (line .exit)) ⌝ }
+{
+    let more = put_row(line, at, reason_row(reason));
+    put_detail(line, more, detail)
 }

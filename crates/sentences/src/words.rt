@@ -1,5 +1,4 @@
 // The tables of words. A row is filled up with spaces: so a table is one constant, which the check takes in less time than an arm for each text.
-use crate::Unread;
 use lines::put_text;
 use rules::Within;
 use rules::names::ROWS;
@@ -8,7 +7,7 @@ ghost use mathlib.Core.Path.{_≡_};
 ghost use lib.ListN.{length};
 ghost use Rattle.lines.specs.Lines.{Put};
 ghost use Rattle.sentences.specs.Rows.{trimmed, Width};
-ghost use Rattle.sentences.specs.Words.{reasonWords, commandWords, accessWords, withinWords, unreadWords};
+ghost use Rattle.sentences.specs.Words.{reasonWords, commandWords, accessWords, withinWords, errorWords};
 
 // What each of document 01's numbers means, from 0 on, which is no reason.
 const REASONS: [[u8; 64]; 22] = [
@@ -78,6 +77,51 @@ const ACCESSES: [[u8; 64]; ROWS] = [
     *b"                                                                ",
 ];
 
+// What the system calls its errors, from 0 on, which is none.
+const ERRORS: [[u8; 64]; 41] = [
+    *b"no reason is known                                              ",
+    *b"Operation not permitted                                         ",
+    *b"No such file or directory                                       ",
+    *b"No such process                                                 ",
+    *b"Interrupted system call                                         ",
+    *b"Input/output error                                              ",
+    *b"No such device or address                                       ",
+    *b"Argument list too long                                          ",
+    *b"Exec format error                                               ",
+    *b"Bad file descriptor                                             ",
+    *b"No child processes                                              ",
+    *b"Resource temporarily unavailable                                ",
+    *b"Cannot allocate memory                                          ",
+    *b"Permission denied                                               ",
+    *b"Bad address                                                     ",
+    *b"Block device required                                           ",
+    *b"Device or resource busy                                         ",
+    *b"File exists                                                     ",
+    *b"Invalid cross-device link                                       ",
+    *b"No such device                                                  ",
+    *b"Not a directory                                                 ",
+    *b"Is a directory                                                  ",
+    *b"Invalid argument                                                ",
+    *b"Too many open files in system                                   ",
+    *b"Too many open files                                             ",
+    *b"Inappropriate ioctl for device                                  ",
+    *b"Text file busy                                                  ",
+    *b"File too large                                                  ",
+    *b"No space left on device                                         ",
+    *b"Illegal seek                                                    ",
+    *b"Read-only file system                                           ",
+    *b"Too many links                                                  ",
+    *b"Broken pipe                                                     ",
+    *b"Numerical argument out of domain                                ",
+    *b"Numerical result out of range                                   ",
+    *b"Resource deadlock avoided                                       ",
+    *b"File name too long                                              ",
+    *b"No locks available                                              ",
+    *b"Function not implemented                                        ",
+    *b"Directory not empty                                             ",
+    *b"Too many levels of symbolic links                               ",
+];
+
 // A number that is no reason has no words.
 pub fn reason_row(reason: u32) -> [u8; 64]
     ensures { λ r. ⌜ trimmed r ≡ reasonWords reason ⌝ }
@@ -118,22 +162,14 @@ pub fn within_row(within: Within) -> [u8; 64]
     }
 }
 
-// Why the system did not give a file.
-pub fn unread_row(why: Unread) -> [u8; 64]
-    ensures { λ r. ⌜ trimmed r ≡ unreadWords why ⌝ }
+// A number past the table has no words.
+pub fn error_row(error: usize) -> [u8; 64]
+    ensures { λ r. ⌜ trimmed r ≡ errorWords error ⌝ }
 {
-    match why {
-        Unread::NoSuchFile => {
-            *b"there is no such file                                           "
-        }
-        Unread::NotAllowed => {
-            *b"it may not be read                                              "
-        }
-        Unread::Folder => *b"it is a folder                                                  ",
-        Unread::NameTooLong => {
-            *b"the name is longer than the system takes                        "
-        }
-        Unread::Other => *b"it cannot be read                                               ",
+    if error < 41 {
+        ERRORS[error]
+    } else {
+        [b' '; 64]
     }
 }
 
