@@ -4,7 +4,8 @@ use Prim.Native.Nat.{_-_}
 use lib.ListN.{length}
 use native.Mathlib.Omega.{arith}
 use borrow.Author.Needs.{needs}
-use Rattle.names.proofs.Showing.{Showing, show-starts, show-goes-on, show-ends, as-long, room}
+use Rattle.names.proofs.Showing.{Showing, show-starts, show-goes-on, show-ends}
+use Rattle.lines.proofs.Pieces.{as-long}
 use Rattle.names.proofs.put_name.Statement.{statement}
 use Rattle.names.proofs.put_name.Tie as tie
 
@@ -17,7 +18,7 @@ abbrev μ-loop : tie.MeasureT-loop
 put-shown-requires : tie.Need-put-shown-requires Inv-loop μ-loop
 put-shown-requires c κs =
     let turn = c .before .before .before .before in
-    omega (arith, room (turn .loop .inv), as-long (turn .loop .inv))
+    omega (arith, turn .loop .inv .short, as-long (turn .loop .inv .pieces))
 
 loop-again : tie.Need-loop-again Inv-loop μ-loop
 loop-again c =
@@ -27,7 +28,7 @@ loop-again c =
     show-goes-on (turn .loop .inv) (search needs) (stands .standing-on .ensures) (put .put-shown .ensures) (c .one-less .ensures)
 
 same-length : tie.Need-same-length Inv-loop μ-loop
-same-length c = as-long (c .before .loop .inv)
+same-length c = as-long (c .before .loop .inv .pieces)
 
 returns : tie.Need-returns Inv-loop μ-loop
 returns c = show-ends (c .before .loop .inv) (search needs) (search needs)
