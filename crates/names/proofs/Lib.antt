@@ -1,0 +1,5 @@
+pub mod Trying
+pub mod Showing
+pub mod Plainness
+pub mod Reading
+pub mod Unique
