@@ -272,11 +272,19 @@ fn look_at(
 // ---- what is said of a file
 
 fn found_kind(found: Finding) -> u8 {
-    if found.answer.reason == 0 { ACCEPTED } else { REFUSED }
+    if found.answer.reason == 0 {
+        ACCEPTED
+    } else {
+        REFUSED
+    }
 }
 
 fn unread_kind(why: Unread) -> u8 {
-    if sentences::is_missing(why) { MISSING } else { UNREAD }
+    if sentences::is_missing(why) {
+        MISSING
+    } else {
+        UNREAD
+    }
 }
 
 fn kind_of(look: Look) -> u8 {
@@ -510,7 +518,12 @@ fn write_json_totals(line: &mut [u8; LINE_BYTES], t: Totals, reasons: &[u64; REA
     write_front(line, end)
 }
 
-fn write_totals(wish: Wish, t: Totals, line: &mut [u8; LINE_BYTES], reasons: &[u64; REASONS]) -> bool {
+fn write_totals(
+    wish: Wish,
+    t: Totals,
+    line: &mut [u8; LINE_BYTES],
+    reasons: &[u64; REASONS],
+) -> bool {
     if wish.json {
         return write_json_totals(line, t, reasons);
     }
@@ -632,8 +645,23 @@ fn audit_stream(wish: Wish, reasons: &mut [u64; REASONS]) -> Run {
         if end == 0 {
             break;
         }
-        let look = look_by_letter(entry[0], &entry[1..end], &mut file, &mut batch, &mut state, &mut records);
-        run = with_name(wish, run, &entry[1..end], look, &mut text, &mut line, reasons);
+        let look = look_by_letter(
+            entry[0],
+            &entry[1..end],
+            &mut file,
+            &mut batch,
+            &mut state,
+            &mut records,
+        );
+        run = with_name(
+            wish,
+            run,
+            &entry[1..end],
+            look,
+            &mut text,
+            &mut line,
+            reasons,
+        );
         at += end + 1;
     }
     run

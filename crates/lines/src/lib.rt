@@ -7,6 +7,9 @@ ghost use Rattle.rules.specs.Printout.{digitsOf};
 ghost use Rattle.lines.specs.Lines.{Put};
 ghost use Rattle.lines.specs.Hexadecimal.{hexDigit, hexDigits};
 
+// A line has room for the name of a file in its longest form, which is that in JSON, and for what is said of the file.
+pub const LINE_BYTES: usize = 24576;
+
 // A number of 64 bits has at most 20 digits.
 pub const MOST_DIGITS: usize = 20;
 

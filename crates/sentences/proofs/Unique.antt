@@ -8,7 +8,7 @@ use Rattle.lines.specs.Lines.{Line}
 use Rattle.lines.proofs.Unique.{one-line}
 use Rattle.sentences.specs.declared.Unread.{Unread}
 use Rattle.sentences.specs.declared.Detail.{Detail}
-use Rattle.sentences.specs.Lines.{refusedWords, unreadWords, acceptedLine, refusedLine, unreadLine, totalsLine}
+use Rattle.sentences.specs.Lines.{refusedWords, unreadWords, acceptedLine, refusedLine, unreadLine, unlistedLine, reasonLine, unlistedTotal, totalsLine}
 
 module _ {old new new′ : List ℕ} {r r′ : ℕ} where
   pub accepted-line-unique : (name : List ℕ) (count : ℕ) → Line (acceptedLine name count) old r new
@@ -22,6 +22,16 @@ module _ {old new new′ : List ℕ} {r r′ : ℕ} where
   pub unread-line-unique : (name : List ℕ) (why : Unread) → Line (unreadLine name why) old r new
       → Line (unreadLine name why) old r′ new′ → (r ≡ r′) × (new ≡ new′)
   unread-line-unique name why = one-line
+
+  pub unlisted-line-unique : (name : List ℕ) → Line (unlistedLine name) old r new → Line (unlistedLine name) old r′ new′ → (r ≡ r′) × (new ≡ new′)
+  unlisted-line-unique name = one-line
+
+  pub reason-line-unique : (reason count : ℕ) → Line (reasonLine reason count) old r new
+      → Line (reasonLine reason count) old r′ new′ → (r ≡ r′) × (new ≡ new′)
+  reason-line-unique reason count = one-line
+
+  pub unlisted-total-unique : (count : ℕ) → Line (unlistedTotal count) old r new → Line (unlistedTotal count) old r′ new′ → (r ≡ r′) × (new ≡ new′)
+  unlisted-total-unique count = one-line
 
   pub totals-line-unique : (accepted refused unread missing : ℕ) → Line (totalsLine accepted refused unread missing) old r new
       → Line (totalsLine accepted refused unread missing) old r′ new′ → (r ≡ r′) × (new ≡ new′)

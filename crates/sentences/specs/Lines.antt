@@ -7,10 +7,10 @@ use Rattle.rules.specs.declared.Answer.{Answer}
 use Rattle.rules.specs.declared.Within.{Within}
 use Rattle.rules.specs.Printout.{decimal, bytes}
 use Rattle.sentences.specs.declared.Unread.{Unread}
-use Rattle.sentences.specs.declared.Unread.the-variants.{NoSuchFile, NotAllowed, Folder, NameTooLong, Changed, Other}
+use Rattle.sentences.specs.declared.Unread.the-variants.{NoSuchFile, NotAllowed, Folder, NameTooLong, Changed, NoRegularFile, Other}
 use Rattle.sentences.specs.declared.Detail.{Detail}
 use Rattle.sentences.specs.declared.Detail.the-variants.{NoMore, InCommand, Reach, HasBytes, HasTooMany}
-use Rattle.sentences.specs.Hexadecimal.{hexDigits}
+use Rattle.lines.specs.Hexadecimal.{hexDigits}
 use Rattle.sentences.specs.Words.{reasonWords, commandWords, accessWords, withinWords, errorWords}
 
 -- "1 command", "214 commands"
@@ -82,6 +82,7 @@ unreadWords NotAllowed = bytes "it may not be read"
 unreadWords Folder = bytes "it is a folder"
 unreadWords NameTooLong = bytes "the name is longer than the system takes"
 unreadWords Changed = bytes "it changed while it was read"
+unreadWords NoRegularFile = bytes "it is no regular file"
 unreadWords (Other error) = bytes "it cannot be read: " ++ errorText error
 
 -- a file that is not there is missing, and any other that was not read is unread
@@ -91,6 +92,7 @@ isMissing NotAllowed = false
 isMissing Folder = false
 isMissing NameTooLong = false
 isMissing Changed = false
+isMissing NoRegularFile = false
 isMissing (Other error) = false
 
 -- how many bytes the name of a file has at most, as it is shown: 4,096, each of which can become four, as `\xNN`
@@ -109,6 +111,19 @@ refusedLine name a dword detail =
 -- "a.capture: missing: there is no such file", "a.capture: unread: it is a folder"
 unfoldable pub unreadLine : List ℕ → Unread → List ℕ
 unreadLine name why = name ++ cond (isMissing why) (bytes ": missing: ") (bytes ": unread: ") ++ unreadWords why ++ bytes "\n"
+
+-- "a.capture: not listed"
+unfoldable pub unlistedLine : List ℕ → List ℕ
+unlistedLine name = name ++ bytes ": not listed\n"
+
+-- "2 refused by 13: an address range does not fit"
+unfoldable pub reasonLine : ℕ → ℕ → List ℕ
+reasonLine reason count =
+    (decimal count ++ bytes " refused by ") ++ (decimal reason ++ bytes ": ") ++ reasonWords reason ++ bytes "\n"
+
+-- "3 not listed"
+unfoldable pub unlistedTotal : ℕ → List ℕ
+unlistedTotal count = decimal count ++ bytes " not listed\n"
 
 -- "2 accepted, 1 refused, 0 unread, 0 missing"
 unfoldable pub totalsLine : ℕ → ℕ → ℕ → ℕ → List ℕ

@@ -1,12 +1,12 @@
 // Why a capture is refused, in words, and what happened: each part is put at a place, and the place behind it comes back, as in `parts`.
 use crate::Detail;
 use crate::parts::put_count;
-use crate::parts::put_hex;
 use crate::words::access_row;
 use crate::words::command_row;
 use crate::words::put_row;
 use crate::words::reason_row;
 use crate::words::within_row;
+use lines::put_hex;
 use lines::put_text;
 use rules::Within;
 ghost use Prim.Native.Nat.{_+_, _≤_};

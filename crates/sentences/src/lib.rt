@@ -6,6 +6,9 @@ use crate::parts::put_count;
 use crate::parts::put_progress;
 use crate::why::put_unread;
 use crate::why::put_verdict;
+use crate::words::put_row;
+use crate::words::reason_row;
+use lines::LINE_BYTES;
 use lines::MOST_DIGITS;
 use lines::put_byte;
 use lines::put_digits;
@@ -16,7 +19,7 @@ ghost use Prim.Native.Nat.{_≤_};
 ghost use mathlib.Core.Path.{_≡_};
 ghost use lib.ListN.{length};
 ghost use Rattle.lines.specs.Lines.{Line};
-ghost use Rattle.sentences.specs.Lines.{nameBytes, refusedWords, unreadWords, isMissing, acceptedLine, refusedLine, unreadLine, totalsLine};
+ghost use Rattle.sentences.specs.Lines.{nameBytes, refusedWords, unreadWords, isMissing, acceptedLine, refusedLine, unreadLine, unlistedLine, reasonLine, unlistedTotal, totalsLine};
 
 mod details;
 mod parts;
@@ -30,6 +33,7 @@ pub enum Unread {
     Folder,
     NameTooLong,
     Changed,
+    NoRegularFile,
     // the system's error, by its number
     Other(usize),
 }
@@ -44,12 +48,10 @@ pub enum Detail {
     HasTooMany,
 }
 
-// How many bytes a name has at most, as it is shown, what is said of a file, and a line of both.
+// How many bytes a name has at most, as it is shown, and what is said of a file.
 pub const NAME_BYTES: usize = 16384;
 
 pub const WORDS_BYTES: usize = 512;
-
-pub const LINE_BYTES: usize = 16896;
 
 // Whether a file is not there: then it is missing, and else it is unread.
 pub fn is_missing(why: Unread) -> bool
@@ -61,6 +63,7 @@ pub fn is_missing(why: Unread) -> bool
         Unread::Folder => false,
         Unread::NameTooLong => false,
         Unread::Changed => false,
+        Unread::NoRegularFile => false,
         Unread::Other(_) => false,
     }
 }
@@ -115,6 +118,31 @@ pub fn unread_line(line: &mut [u8; LINE_BYTES], name: &[u8], why: Unread) -> usi
     let words = put_verdict(line, verdict, why);
     let end = put_unread(line, words, why);
     put_byte(line, end, b'\n')
+}
+
+// Of a capture in a folder that the list has not.
+pub fn unlisted_line(line: &mut [u8; LINE_BYTES], name: &[u8]) -> usize
+    requires { ⌜ length (now name) ≤ nameBytes ⌝ }
+    ensures { λ r. ⌜ Line (unlistedLine (now (name .entry))) (now (line .entry)) r (now (line .exit)) ⌝ }
+{
+    put_both(line, 0, name, b": not listed\n")
+}
+
+// How many captures a reason refused.
+pub fn reason_line(line: &mut [u8; LINE_BYTES], reason: u32, count: u64) -> usize
+    ensures { λ r. ⌜ Line (reasonLine reason count) (now (line .entry)) r (now (line .exit)) ⌝ }
+{
+    let number = put_count(line, 0, count as usize, b" refused by ");
+    let words = put_count(line, number, reason as usize, b": ");
+    let end = put_row(line, words, reason_row(reason));
+    put_byte(line, end, b'\n')
+}
+
+// How many captures in the folder the list has not.
+pub fn unlisted_total(line: &mut [u8; LINE_BYTES], count: u64) -> usize
+    ensures { λ r. ⌜ Line (unlistedTotal count) (now (line .entry)) r (now (line .exit)) ⌝ }
+{
+    put_count(line, 0, count as usize, b" not listed\n")
 }
 
 pub fn totals_line(

@@ -49,6 +49,7 @@ pub fn put_unread(line: &mut [u8], at: usize, why: Unread) -> usize
         Unread::Folder => put_text(line, at, b"it is a folder"),
         Unread::NameTooLong => put_text(line, at, b"the name is longer than the system takes"),
         Unread::Changed => put_text(line, at, b"it changed while it was read"),
+        Unread::NoRegularFile => put_text(line, at, b"it is no regular file"),
         Unread::Other(error) => put_error(line, at, error),
     }
 }

@@ -40,6 +40,12 @@ returns-6 : tie.Need-returns-6
 unfolding unreadWords
 returns-6 c =
     let words = c .before .before in
+    rw (words .before .before .before .enum-told6 .given .1) (at-most (search needs) (words .put-text6 .ensures))
+
+returns-7 : tie.Need-returns-7
+unfolding unreadWords
+returns-7 c =
+    let words = c .before .before in
     rw (words .before .before .before .why .given .1) (words .put-error .ensures)
 
 pub put-unread-spec : {M : Type 1} → statement M
@@ -47,6 +53,7 @@ put-unread-spec =
     tie.close
     (tie.spec (λ c. search needs) (λ c. search needs) (λ c κs. search needs) (λ c. search needs) (λ c. search needs) (λ c κs. search needs)
     (λ c. search needs) (λ c. search needs) (λ c κs. search needs) (λ c. search needs) (λ c. search needs) (λ c κs. search needs)
-    (λ c. search needs) (λ c. search needs) (λ c κs. search needs) (λ c. search needs) (λ c κs. search needs) (λ c. search needs) returns
+    (λ c. search needs) (λ c. search needs) (λ c κs. search needs) (λ c. search needs) (λ c. search needs) (λ c κs. search needs)
+    (λ c. search needs) (λ c κs. search needs) (λ c. search needs) returns
     (λ c. search needs) returns-2 (λ c. search needs) returns-3 (λ c. search needs) returns-4 (λ c. search needs) returns-5
-    (λ c. search needs) returns-6)
+    (λ c. search needs) returns-6 (λ c. search needs) returns-7)
