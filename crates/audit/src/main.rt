@@ -1,7 +1,7 @@
 // A line in plain words for each capture that an argument names, and last the totals.
 ghost use Prim.Native.Nat.{_≤_};
 ghost use lib.ListN.{length};
-ghost use Rattle.sentences.specs.Lines.{nameBytes};
+ghost use Rattle.lines.specs.Lines.{nameBytes};
 use causes::cause;
 use libc::SEEK_END;
 use libc::STDOUT_FILENO;

@@ -7,6 +7,7 @@ use crate::parts::put_progress;
 use crate::why::put_unread;
 use crate::why::put_verdict;
 use lines::MOST_DIGITS;
+use lines::NAME_BYTES;
 use lines::put_byte;
 use lines::put_digits;
 use lines::put_text;
@@ -15,8 +16,8 @@ use rules::Within;
 ghost use Prim.Native.Nat.{_≤_};
 ghost use mathlib.Core.Path.{_≡_};
 ghost use lib.ListN.{length};
-ghost use Rattle.lines.specs.Lines.{Line};
-ghost use Rattle.sentences.specs.Lines.{nameBytes, refusedWords, unreadWords, isMissing, acceptedLine, refusedLine, unreadLine, totalsLine};
+ghost use Rattle.lines.specs.Lines.{Line, nameBytes};
+ghost use Rattle.sentences.specs.Lines.{refusedWords, unreadWords, isMissing, acceptedLine, refusedLine, unreadLine, totalsLine};
 
 mod details;
 mod parts;
@@ -44,12 +45,10 @@ pub enum Detail {
     HasTooMany,
 }
 
-// How many bytes a name has at most, as it is shown, what is said of a file, and a line of both.
-pub const NAME_BYTES: usize = 16384;
-
+// How many bytes there are at most of what is said of a file, and of a line.
 pub const WORDS_BYTES: usize = 512;
 
-pub const LINE_BYTES: usize = 16896;
+pub const LINE_BYTES: usize = NAME_BYTES + WORDS_BYTES;
 
 // Whether a file is not there: then it is missing, and else it is unread.
 pub fn is_missing(why: Unread) -> bool
