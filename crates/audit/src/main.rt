@@ -2,7 +2,7 @@
 // the captures that are accepted, s for names that come on descriptor 5; the other arguments are names.
 ghost use Prim.Native.Nat.{_≤_, _<_};
 ghost use lib.ListN.{length};
-ghost use Rattle.names.specs.Names.{shownName};
+ghost use Rattle.lines.specs.Lines.{nameBytes};
 ghost use Rattle.json.specs.Strings.{quoted};
 use causes::cause;
 use json::Number;
@@ -11,6 +11,7 @@ use json::Totals;
 use libc::SEEK_END;
 use libc::STDOUT_FILENO;
 use lines::LINE_BYTES;
+use lines::NAME_BYTES;
 use lines::put_text;
 use reports::ACCEPTED;
 use reports::MOST_BYTES;
@@ -19,7 +20,6 @@ use reports::UNREAD;
 use rules::Answer;
 use rules::Opened;
 use sentences::Detail;
-use sentences::NAME_BYTES;
 use sentences::Unread;
 use sentences::WORDS_BYTES;
 use std::num::wrapping_add_u64;

@@ -13,6 +13,9 @@ pub const LINE_BYTES: usize = 24576;
 // A number of 64 bits has at most 20 digits.
 pub const MOST_DIGITS: usize = 20;
 
+// How many bytes the name of a file has at most, as it is shown: 4,096, each of which can become four, as `\xNN`.
+pub const NAME_BYTES: usize = 16384;
+
 pub fn put_byte(out: &mut [u8], at: usize, byte: u8) -> usize
     requires { ⌜ at < length (now out) ⌝ }
     ensures { λ r. ⌜ Put at 1 (byte ∷ []) (now (out .entry)) r (now (out .exit)) ⌝ }

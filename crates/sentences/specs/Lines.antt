@@ -95,10 +95,6 @@ isMissing Changed = false
 isMissing NoRegularFile = false
 isMissing (Other error) = false
 
--- how many bytes the name of a file has at most, as it is shown: 4,096, each of which can become four, as `\xNN`
-abbrev pub nameBytes : ℕ
-nameBytes = 16384
-
 -- "a.capture: accepted, 214 commands"
 unfoldable pub acceptedLine : List ℕ → ℕ → List ℕ
 acceptedLine name count = name ++ bytes ": accepted, " ++ commandsText count ++ bytes "\n"

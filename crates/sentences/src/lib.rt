@@ -18,8 +18,8 @@ use rules::Within;
 ghost use Prim.Native.Nat.{_≤_};
 ghost use mathlib.Core.Path.{_≡_};
 ghost use lib.ListN.{length};
-ghost use Rattle.lines.specs.Lines.{Line};
-ghost use Rattle.sentences.specs.Lines.{nameBytes, refusedWords, unreadWords, isMissing, acceptedLine, refusedLine, unreadLine, unlistedLine, reasonLine, unlistedTotal, totalsLine};
+ghost use Rattle.lines.specs.Lines.{Line, nameBytes};
+ghost use Rattle.sentences.specs.Lines.{refusedWords, unreadWords, isMissing, acceptedLine, refusedLine, unreadLine, unlistedLine, reasonLine, unlistedTotal, totalsLine};
 
 mod details;
 mod parts;
@@ -48,9 +48,7 @@ pub enum Detail {
     HasTooMany,
 }
 
-// How many bytes a name has at most, as it is shown, and what is said of a file.
-pub const NAME_BYTES: usize = 16384;
-
+// How many bytes there are at most of what is said of a file.
 pub const WORDS_BYTES: usize = 512;
 
 // Whether a file is not there: then it is missing, and else it is unread.
