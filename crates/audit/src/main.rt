@@ -626,7 +626,7 @@ fn fetch(at: usize, entry: &mut [u8; ENTRY]) -> usize
     ensures { λ r. ⌜ r ≤ 4098 ⌝ }
 {
     let n = io::count(libc::pread(NAMES, entry, at as i64), entry);
-    names::name_end(&entry[..n], 0)
+    names::name_end(&entry[..n], 0, 0)
 }
 
 fn audit_stream(wish: Wish, reasons: &mut [u64; REASONS]) -> Run {

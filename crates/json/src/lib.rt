@@ -5,6 +5,7 @@ use crate::parts::put_number;
 use crate::parts::put_outcome;
 use crate::parts::put_string;
 use crate::reasons::put_reasons;
+use lines::LINE_BYTES;
 use lines::put_text;
 use rules::Answer;
 ghost use mathlib.Core.Path.{_≡_};
@@ -119,7 +120,7 @@ fn put_place(line: &mut [u8], at: usize, told: Told) -> usize
 }
 
 // The line of a file, from byte 0 on, and its length. The name is as `names::shown` shows it: of 4,096 bytes at most, its text takes 20,480 in quotation marks.
-pub fn file_line(line: &mut [u8; 24576], name: &[u8], words: &[u8], told: Told) -> usize
+pub fn file_line(line: &mut [u8; LINE_BYTES], name: &[u8], words: &[u8], told: Told) -> usize
     requires { ⌜ (length (quoted (now name)) ≤ 20480) × (length (quoted (now words)) ≤ 3072) ⌝ }
     ensures { λ r. ⌜ Line (fileLine (now (name .entry)) (now (words .entry)) told) (now (line .entry)) r (now (line .exit)) ⌝ }
 {
@@ -143,7 +144,7 @@ fn put_counts(line: &mut [u8], t: Totals) -> usize
 }
 
 // The line of the totals, from byte 0 on, and its length. How many files each reason refused stands at its number.
-pub fn totals_line(line: &mut [u8; 24576], totals: Totals, counts: &[u64; 23]) -> usize
+pub fn totals_line(line: &mut [u8; LINE_BYTES], totals: Totals, counts: &[u64; 23]) -> usize
     ensures { λ r. ⌜ Line (totalsLine totals (now (counts .entry))) (now (line .entry)) r (now (line .exit)) ⌝ }
 {
     let open = put_counts(line, totals);

@@ -1,4 +1,6 @@
-// A name as it is shown on one line: what can be read stands as it is, every other byte is written out, and two names never give the same text.
+// A name as it is shown on one line: what can be read stands as it is, every other byte is written out, and two names never give the same text;
+// and where a name ends in a file of names.
+use lines::NAME_BYTES;
 use lines::put_byte;
 use lines::put_hex;
 use lines::put_text;
@@ -8,6 +10,7 @@ ghost use mathlib.Core.List.{[]};
 ghost use lib.ListN.{length, getD, drop};
 ghost use Rattle.rules.specs.Formats.{between};
 ghost use Rattle.lines.specs.Lines.{Put, Line};
+ghost use Rattle.names.specs.Entries.{NameEnd};
 ghost use Rattle.names.specs.Names.{noByte, characters, fits, standing, standingOn, writtenOut, shownByte, shownName};
 
 // How many bytes of a character stand, then the lowest and the highest that each of its four bytes may be. 0 and 256: any byte, or none.
@@ -142,9 +145,24 @@ fn put_name(text: &mut [u8], name: &[u8]) -> usize
 }
 
 // The text of a name, from byte 0 on, and its length.
-pub fn shown(name: &[u8], text: &mut [u8; 16384]) -> usize
+pub fn shown(name: &[u8], text: &mut [u8; NAME_BYTES]) -> usize
     requires { ⌜ length (now name) ≤ 4096 ⌝ }
     ensures { λ r. ⌜ Line (shownName (now (name .entry))) (now (text .entry)) r (now (text .exit)) ⌝ }
 {
     put_name(text, name)
+}
+
+// Where the name that starts at `from` ends: the place of the next ending byte or, if there is none, that behind the last byte.
+pub fn name_end(bytes: &[u8], from: usize, ending: u8) -> usize
+    requires { ⌜ from ≤ length (now bytes) ⌝ }
+    ensures { λ r. ⌜ NameEnd (now (bytes .entry)) from ending r ⌝ }
+{
+    let mut i = from;
+    while i < bytes.len() {
+        if bytes[i] == ending {
+            return i;
+        }
+        i += 1;
+    }
+    i
 }

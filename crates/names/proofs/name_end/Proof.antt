@@ -3,9 +3,9 @@
 use Prim.Native.Nat.{_-_}
 use lib.ListN.{length}
 use borrow.Author.Needs.{needs}
-use Rattle.feed.proofs.Feeding.{Seeking, seek-starts, seek-goes-on, seek-finds, seek-ends}
-use Rattle.feed.proofs.name_end.Statement.{statement}
-use Rattle.feed.proofs.name_end.Tie as tie
+use Rattle.names.proofs.Seeking.{Seeking, seek-starts, seek-goes-on, seek-finds, seek-ends}
+use Rattle.names.proofs.name_end.Statement.{statement}
+use Rattle.names.proofs.name_end.Tie as tie
 
 abbrev Inv-loop : tie.InvT-loop
 Inv-loop bytes from ending i₀ i = Seeking bytes from ending i

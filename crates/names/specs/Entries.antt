@@ -1,4 +1,4 @@
--- A name in a stream of names, each of which has an ending byte after it.
+-- A name in a file of names, each of which has an ending byte after it.
 use Prim.Native.Nat.{ℕ, suc, _+_, _≤_}
 use mathlib.Core.Path.{_≡_, refl}
 use mathlib.Core.Bool.{cond}
