@@ -1,7 +1,8 @@
 // A line for each capture that is named, in plain words or as JSON, and last the totals. Argument 1 says how, in letters: j for JSON, q without
 // the captures that are accepted, s for names that come on descriptor 5; the other arguments are names.
+ghost use mathlib.Core.Path.{_≡_};
 ghost use Prim.Native.Nat.{_≤_, _<_};
-ghost use lib.ListN.{length};
+ghost use lib.ListN.{length, take};
 ghost use Rattle.lines.specs.Lines.{nameBytes};
 ghost use Rattle.json.specs.Strings.{quoted};
 use causes::cause;
@@ -71,10 +72,10 @@ enum Rest {
     Lost(Unread),
 }
 
-// What was found so far, and whether all of it was written.
+// What was found so far, and whether every name was read and every line written.
 struct Run {
     totals: Totals,
-    written: bool,
+    whole: bool,
 }
 
 // ---- what is asked for
@@ -303,7 +304,8 @@ fn found_line(line: &mut [u8; LINE_BYTES], name: &[u8], found: Finding) -> usize
     if answer.reason == 0 {
         return sentences::accepted_line(line, name, answer.count);
     }
-    sentences::refused_line(line, name, answer, found.dword, found.detail)
+    let detail = found.detail;
+    sentences::refused_line(line, name, answer, found.dword, detail)
 }
 
 fn plain_line(line: &mut [u8; LINE_BYTES], name: &[u8], look: Look) -> usize
@@ -319,17 +321,18 @@ fn plain_line(line: &mut [u8; LINE_BYTES], name: &[u8], look: Look) -> usize
 
 // The same words as in the line in plain words.
 fn found_words(words: &mut [u8; WORDS_BYTES], found: Finding) -> usize
-    ensures { λ r. ⌜ r ≤ 512 ⌝ }
+    ensures { λ r. ⌜ (r ≤ length (now (words .exit))) × (length (now (words .exit)) ≡ length (now (words .entry))) ⌝ }
 {
     let reason = found.answer.reason;
     if reason == 0 {
         return put_text(words, 0, b"accepted");
     }
-    sentences::refused_words(words, reason, found.detail)
+    let detail = found.detail;
+    sentences::refused_words(words, reason, detail)
 }
 
 fn words_of(words: &mut [u8; WORDS_BYTES], look: Look) -> usize
-    ensures { λ r. ⌜ r ≤ 512 ⌝ }
+    ensures { λ r. ⌜ (r ≤ length (now (words .exit))) × (length (now (words .exit)) ≡ length (now (words .entry))) ⌝ }
 {
     match look {
         Look::Read(found) => found_words(words, found),
@@ -370,11 +373,9 @@ fn told(look: Look) -> json::Told {
     match look {
         Look::Read(found) => {
             let answer = found.answer;
-            json::judged(
-                size_told(found.size),
-                answer,
-                dword_told(answer.reason, found.dword),
-            )
+            let size = found.size;
+            let dword = dword_told(answer.reason, found.dword);
+            json::judged(size_told(size), answer, dword)
         }
         Look::NotRead(why) => json::not_judged(Number::Null, outcome_of(why)),
         Look::Unlisted => json::not_judged(Number::Null, Outcome::Unlisted),
@@ -401,7 +402,7 @@ fn one_line(wish: Wish, line: &mut [u8; LINE_BYTES], name: &[u8], look: Look) ->
     }
 }
 
-// A line is written whole, so that the lines of audits that run side by side do not mix.
+// A line is written whole, so that the lines of audits that run side by side do not mix. If it cannot be written, it is said why.
 fn write_front(line: &[u8], end: usize) -> bool
     requires { ⌜ end ≤ length (now line) ⌝ }
 {
@@ -412,7 +413,15 @@ fn write_front(line: &[u8], end: usize) -> bool
     false
 }
 
-// The line for a name of at most 4,096 bytes. Whether it was written.
+// The line for a name that is shown by the first n bytes of a text. Whether it was written.
+fn tell_shown(wish: Wish, text: &[u8], n: usize, look: Look, line: &mut [u8; LINE_BYTES]) -> bool
+    requires { ⌜ (n ≤ length (now text)) × (n ≤ nameBytes) × (length (quoted (take n (now text))) ≤ 20480) ⌝ }
+{
+    let end = one_line(wish, line, &text[..n], look);
+    write_front(line, end)
+}
+
+// The line for a name of at most 4,096 bytes.
 fn tell_short(
     wish: Wish,
     name: &[u8],
@@ -423,11 +432,10 @@ fn tell_short(
     requires { ⌜ length (now name) ≤ 4096 ⌝ }
 {
     let n = names::shown(name, text);
-    let end = one_line(wish, line, &text[..n], look);
-    write_front(line, end)
+    tell_shown(wish, text, n, look, line)
 }
 
-// The line for a name; of one that is longer than any path the first bytes are shown.
+// The line for any name; of one that is longer than any path the first bytes are shown.
 fn tell(
     wish: Wish,
     name: &[u8],
@@ -478,7 +486,7 @@ fn count_reason(reasons: &mut [u64; REASONS], reason: usize) {
 
 fn status_of(run: Run) -> u8 {
     let t = run.totals;
-    if (t.unread != 0) | (t.missing != 0) | !run.written {
+    if (t.unread != 0) | (t.missing != 0) | !run.whole {
         return UNREAD;
     }
     if t.refused != 0 { REFUSED } else { ACCEPTED }
@@ -541,8 +549,26 @@ fn none_yet() -> Run {
             missing: 0,
             unlisted: 0,
         },
-        written: true,
+        whole: true,
     }
+}
+
+// No more names can be read.
+fn names_lost(run: Run) -> Run {
+    os::fail(b"lungevati: the names could not be read");
+    let totals = run.totals;
+    Run {
+        totals,
+        whole: false,
+    }
+}
+
+// The begin of a run over the file of names, by where that ends.
+fn begun(end: i64) -> Run {
+    if end < 0 {
+        return names_lost(none_yet());
+    }
+    none_yet()
 }
 
 // One name more: its line is written, and it is counted.
@@ -556,9 +582,10 @@ fn with_name(
     reasons: &mut [u64; REASONS],
 ) -> Run {
     count_reason(reasons, reason_of(look));
-    let totals = counted(run.totals, kind_of(look));
-    let written = tell(wish, name, look, text, line);
-    Run { totals, written }
+    let before = run.totals;
+    let totals = counted(before, kind_of(look));
+    let whole = tell(wish, name, look, text, line);
+    Run { totals, whole }
 }
 
 // The argument i, and its length. One that is longer than any path fills the entry.
@@ -572,6 +599,13 @@ fn argument(i: usize, entry: &mut [u8; ENTRY]) -> usize
     n
 }
 
+// The bytes of a name in an entry.
+fn part(entry: &[u8], from: usize, to: usize) -> &[u8]
+    requires { ⌜ (from ≤ to) × (to ≤ length (now entry)) ⌝ }
+{
+    &entry[from..to]
+}
+
 // Every buffer is made once and lent for each name: to make them anew would cost more than the check.
 fn audit_arguments(wish: Wish, count: usize, reasons: &mut [u64; REASONS]) -> Run {
     let mut entry = [0u8; ENTRY];
@@ -583,10 +617,11 @@ fn audit_arguments(wish: Wish, count: usize, reasons: &mut [u64; REASONS]) -> Ru
     let mut records = [0u32; 4096];
     let mut run = none_yet();
     let mut i = 2;
-    while i < count && run.written {
+    while i < count && run.whole {
         let n = argument(i, &mut entry);
-        let look = look_at(&entry[..n], &mut file, &mut batch, &mut state, &mut records);
-        run = with_name(wish, run, &entry[..n], look, &mut text, &mut line, reasons);
+        let name = part(&entry, 0, n);
+        let look = look_at(name, &mut file, &mut batch, &mut state, &mut records);
+        run = with_name(wish, run, name, look, &mut text, &mut line, reasons);
         i += 1;
     }
     run
@@ -610,23 +645,38 @@ fn look_by_letter(
     look_at(name, file, batch, state, records)
 }
 
-fn size_in_bounds(end: i64) -> usize
+fn in_bounds(size: u64) -> usize
     ensures { λ r. ⌜ r ≤ 0x10000000000 ⌝ }
 {
-    if end < 0 {
-        return 0;
+    if size < MOST_NAMES as u64 {
+        size as usize
+    } else {
+        MOST_NAMES
     }
-    let size = end as usize;
-    if size < MOST_NAMES { size } else { MOST_NAMES }
+}
+
+// The size of the file of names, by where it ends.
+fn names_size(end: i64) -> usize
+    ensures { λ r. ⌜ r ≤ 0x10000000000 ⌝ }
+{
+    if end > 0 { in_bounds(end as u64) } else { 0 }
+}
+
+// The place of the NUL among the first n bytes.
+fn end_of(entry: &[u8], n: usize) -> usize
+    requires { ⌜ n ≤ length (now entry) ⌝ }
+    ensures { λ r. ⌜ r ≤ n ⌝ }
+{
+    names::name_end(&entry[..n], 0, 0)
 }
 
 // The entry at a place of the file of names, and the place of its NUL.
 fn fetch(at: usize, entry: &mut [u8; ENTRY]) -> usize
     requires { ⌜ at < 0x10000000000 ⌝ }
-    ensures { λ r. ⌜ r ≤ 4098 ⌝ }
+    ensures { λ r. ⌜ r ≤ length (now (entry .exit)) ⌝ }
 {
     let n = io::count(libc::pread(NAMES, entry, at as i64), entry);
-    names::name_end(&entry[..n], 0, 0)
+    end_of(entry, n)
 }
 
 fn audit_stream(wish: Wish, reasons: &mut [u64; REASONS]) -> Run {
@@ -637,31 +687,26 @@ fn audit_stream(wish: Wish, reasons: &mut [u64; REASONS]) -> Run {
     let mut batch = [0u32; 4096];
     let mut state = [0u32; 4096];
     let mut records = [0u32; 4096];
-    let mut run = none_yet();
-    let size = size_in_bounds(libc::lseek(NAMES, 0, SEEK_END));
+    let last = libc::lseek(NAMES, 0, SEEK_END);
+    let mut run = begun(last);
+    let size = names_size(last);
     let mut at = 0;
-    while at < size && run.written {
+    while at < size && run.whole {
         let end = fetch(at, &mut entry);
         if end == 0 {
-            break;
+            return names_lost(run);
         }
+        let letter = entry[0];
+        let name = part(&entry, 1, end);
         let look = look_by_letter(
-            entry[0],
-            &entry[1..end],
+            letter,
+            name,
             &mut file,
             &mut batch,
             &mut state,
             &mut records,
         );
-        run = with_name(
-            wish,
-            run,
-            &entry[1..end],
-            look,
-            &mut text,
-            &mut line,
-            reasons,
-        );
+        run = with_name(wish, run, name, look, &mut text, &mut line, reasons);
         at += end + 1;
     }
     run
@@ -676,10 +721,8 @@ fn main() {
     } else {
         audit_arguments(wish, os::arg_count(), &mut reasons)
     };
-    let ended = run.written && write_totals(wish, run.totals, &mut line, &reasons);
-    let status = status_of(Run {
-        totals: run.totals,
-        written: ended,
-    });
+    let totals = run.totals;
+    let whole = run.whole && write_totals(wish, totals, &mut line, &reasons);
+    let status = status_of(Run { totals, whole });
     io::write_all(REPORT, &reports::status_line(status));
 }

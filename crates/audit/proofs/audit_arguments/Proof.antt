@@ -6,13 +6,16 @@ use Rattle.audit.proofs.audit_arguments.Statement.{statement}
 use Rattle.audit.proofs.audit_arguments.Tie as tie
 
 abbrev Inv-loop : tie.InvT-loop
-Inv-loop count totals₀ i₀ totals i = Unit {0}
+Inv-loop wish count reasons₀ entry₀ text₀ line₀ file₀ batch₀ state₀ records₀ run₀ i₀ reasons entry text line file batch state records run i =
+    Unit {0}
 
 abbrev μ-loop : tie.MeasureT-loop
-μ-loop count totals₀ i₀ totals i = count - i
+μ-loop wish count reasons₀ entry₀ text₀ line₀ file₀ batch₀ state₀ records₀ run₀ i₀ reasons entry text line file batch state records run i =
+    count - i
 
 pub audit-arguments-spec : {M : Type 1} → statement M
 audit-arguments-spec =
     tie.close
-    (tie.spec Inv-loop μ-loop (λ c. tt) (λ c κs. search needs) (λ c κs. search needs) (λ c. search needs) (λ c. search needs)
-    (λ c. tt) (λ c. search needs))
+    (tie.spec Inv-loop μ-loop (λ c κs. search needs) (λ c. tt) (λ c κs. search needs) (λ c. search needs) (λ c κs. search needs)
+    (λ c. search needs) (λ c. search needs) (λ c. search needs) (λ c. search needs) (λ c κs. search needs) (λ c κs. search needs)
+    (λ c. search needs) (λ c. search needs) (λ c. tt) (λ c. search needs) (λ c. search needs))
