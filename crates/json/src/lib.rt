@@ -120,7 +120,7 @@ fn put_place(line: &mut [u8], at: usize, told: Told) -> usize
 
 // The line of a file, from byte 0 on, and its length. The name is as `names::shown` shows it: of 4,096 bytes at most, its text takes 20,480 in quotation marks.
 pub fn file_line(line: &mut [u8; 24576], name: &[u8], words: &[u8], told: Told) -> usize
-    requires { ⌜ (length (quoted (now name)) ≤ 20480) × (length (quoted (now words)) ≤ 3072) ⌝ }
+    requires { ⌜ (length (quoted (now name)) ≤ 20480) × (length (now words) ≤ 512) ⌝ }
     ensures { λ r. ⌜ Line (fileLine (now (name .entry)) (now (words .entry)) told) (now (line .entry)) r (now (line .exit)) ⌝ }
 {
     let reason = told.reason;
