@@ -2,17 +2,17 @@
 -- Assumes nothing.
 use Prim.Native.Nat.{ℕ, zero, suc, _+_, _-_, _*_, _/_, _%_, _<_, _≤_}
 use native.Mathlib.Omega.{arith}
-use mathlib.Core.Path.{_≡_, refl, sym, ap, _∙_}
+use mathlib.Core.Path.{_≡_, refl, ap}
 use mathlib.Core.Bool.{Bool, true, false, cond, _||_}
 use mathlib.Core.List.{List, [], _∷_, _++_, append-assoc}
 use mathlib.Core.Logic.{⊎-elim}
-use lib.ListN.{length, take, drop, length-append}
-use lib.Seq.{take-at}
+use lib.ListN.{length, take, length-append}
 use lib.Dec.{ltb, eqb, eqb·suc-zero}
 use borrow.Author.Tests.{ltb-true, ltb-false, le-ltb, ne-eqb}
 use Rattle.rules.proofs.Searching.{either}
 use Rattle.lines.specs.Hexadecimal.{hexDigit, hexDigits}
 use Rattle.lines.specs.Lines.{Line}
+use Rattle.lines.proofs.Putting.{line-front}
 use Rattle.names.specs.Names.{writtenOut, shownByte, standingOn, shownOn, shownName}
 use Rattle.names.proofs.Plainness.{Plain, PlainFront, standing-plain, rest-plain}
 use Rattle.json.specs.Strings.{quotedByte, quoted}
@@ -80,7 +80,4 @@ name-quoted name = shown-on-quoted 0 name (λ k h. absurd (omega arith))
 -- what `file_line` asks of a name, from what `names::shown` promises of its text
 pub shown-fits : (name : List ℕ) {old new : List ℕ} {r : ℕ} → Line (shownName name) old r new → length name ≤ 4096
     → length (quoted (take r new)) ≤ 20480
-shown-fits name {old} {new} {r} l h =
-    let front : take r new ≡ shownName name =
-    ap (take r) (l .written) ∙ take-at (shownName name) (drop (length (shownName name)) old) r (sym (l .counts)) in
-    rw front (omega (arith, name-quoted name))
+shown-fits name l h = rw (line-front l) (omega (arith, name-quoted name))

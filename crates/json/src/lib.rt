@@ -54,6 +54,7 @@ pub struct Totals {
     pub unlisted: u64,
 }
 
+// What is told of an answer.
 fn with_answer(outcome: Outcome, size: Number, answer: Answer, dword: Number) -> Told
     ensures { λ r. ⌜ r ≡ withAnswer outcome size answer dword ⌝ }
 {
@@ -95,8 +96,9 @@ pub fn not_judged(size: Number, outcome: Outcome) -> Told
 }
 
 fn put_head(line: &mut [u8], name: &[u8], told: Told) -> usize
-    requires { ⌜ length (quoted (now name)) + 96 ≤ length (now line) ⌝ }
-    ensures { λ r. ⌜ Put 0 (length (quoted (now (name .entry))) + 80) (headText (now (name .entry)) told) (now (line .entry)) r (now (line .exit)) ⌝ }
+    requires { ⌜ length (quoted (now name)) + 64 ≤ length (now line) ⌝ }
+    ensures { λ r.
+        ⌜ Put 0 (length (quoted (now (name .entry))) + 64) (headText (now (name .entry)) told) (now (line .entry)) r (now (line .exit)) ⌝ }
 {
     let size = told.size;
     let outcome = told.outcome;
@@ -119,9 +121,9 @@ fn put_place(line: &mut [u8], at: usize, told: Told) -> usize
     put_member(line, last, b",\"count\":", count)
 }
 
-// The line of a file, from byte 0 on, and its length. The name is as `names::shown` shows it: of 4,096 bytes at most, its text takes 20,480 in quotation marks.
+// The line of a file, from byte 0 on, and its length. A name of 4,096 bytes, as `names::shown` shows it, takes 20,480 bytes at most when it is quoted.
 pub fn file_line(line: &mut [u8; LINE_BYTES], name: &[u8], words: &[u8], told: Told) -> usize
-    requires { ⌜ (length (quoted (now name)) ≤ 20480) × (length (quoted (now words)) ≤ 3072) ⌝ }
+    requires { ⌜ (length (quoted (now name)) ≤ 20480) × (length (now words) ≤ 512) ⌝ }
     ensures { λ r. ⌜ Line (fileLine (now (name .entry)) (now (words .entry)) told) (now (line .entry)) r (now (line .exit)) ⌝ }
 {
     let reason = told.reason;

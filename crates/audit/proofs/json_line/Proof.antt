@@ -6,7 +6,7 @@ use lib.ListN.{take}
 use lib.Seq.{length-take-le}
 use Rattle.json.proofs.Bounds.{text-quoted}
 use borrow.Author.Needs.{needs}
-use Rattle.audit.proofs.Kept.{inside}
+use Rattle.lines.proofs.Putting.{line-within}
 use Rattle.audit.proofs.json_line.Statement.{statement}
 use Rattle.audit.proofs.json_line.Tie as tie
 
@@ -27,4 +27,4 @@ pub json-line-spec : {M : Type 1} → statement M
 json-line-spec =
     tie.close
     (tie.spec (λ c κs. search needs) array-share-prefix-words slice-aggregate-file-line (λ c κs. search needs) file-line-requires
-    (λ c. inside (c .file-line .ensures)))
+    (λ c. line-within (c .file-line .ensures)))

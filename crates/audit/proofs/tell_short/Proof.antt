@@ -2,7 +2,7 @@
 -- Assumes nothing.
 use native.Mathlib.Omega.{arith}
 use Rattle.json.proofs.Bounds.{shown-fits}
-use Rattle.audit.proofs.Kept.{inside}
+use Rattle.lines.proofs.Putting.{line-within}
 use borrow.Author.Needs.{needs}
 use Rattle.audit.proofs.tell_short.Statement.{statement}
 use Rattle.audit.proofs.tell_short.Tie as tie
@@ -11,7 +11,7 @@ tell-shown-requires : tie.Need-tell-shown-requires
 tell-shown-requires c κs =
     let called = c .before .before .before in
     let line = called .shown .ensures in
-    let within = inside line in
+    let within = line-within line in
     (search needs, search needs, shown-fits _ line (called .before .before .before .pre))
 
 pub tell-short-spec : {M : Type 1} → statement M

@@ -1,7 +1,8 @@
 -- `words_of` is safe: the words lie within their buffer.
 -- Assumes nothing.
 use borrow.Author.Needs.{needs}
-use Rattle.audit.proofs.Kept.{length-kept, inside}
+use Rattle.lines.proofs.Putting.{line-within}
+use Rattle.audit.proofs.Kept.{length-kept}
 use Rattle.audit.proofs.words_of.Statement.{statement}
 use Rattle.audit.proofs.words_of.Tie as tie
 
@@ -9,5 +10,5 @@ pub words-of-spec : {M : Type 1} → statement M
 words-of-spec =
     tie.close
     (tie.spec (λ c. search needs) (λ c κs. search needs) (λ c. search needs) (λ c κs. search needs) (λ c. search needs)
-    (λ c. search needs) (λ c κs. search needs) (λ c. search needs) (λ c. (inside (c .unread-words .ensures), length-kept (c .unread-words .ensures)))
+    (λ c. search needs) (λ c κs. search needs) (λ c. search needs) (λ c. (line-within (c .unread-words .ensures), length-kept (c .unread-words .ensures)))
     (λ c. search needs))

@@ -3,7 +3,7 @@
 use Prim.Native.Nat.{_-_}
 use native.Mathlib.Omega.{arith}
 use borrow.Author.Needs.{needs}
-use Rattle.audit.proofs.Kept.{inside}
+use Rattle.lines.proofs.Putting.{line-within}
 use Rattle.audit.proofs.write_reasons.Statement.{statement}
 use Rattle.audit.proofs.write_reasons.Tie as tie
 
@@ -14,7 +14,7 @@ abbrev μ-loop : tie.MeasureT-loop
 μ-loop line₀ reasons reason₀ line reason = 23 - reason
 
 write-front-requires : tie.Need-write-front-requires Inv-loop μ-loop
-write-front-requires c κs = inside (c .before .before .reason-line .ensures)
+write-front-requires c κs = line-within (c .before .before .reason-line .ensures)
 
 pub write-reasons-spec : {M : Type 1} → statement M
 write-reasons-spec =
