@@ -146,9 +146,9 @@ fn command_detail(
 fn judged(
     file: &[u8],
     size: Detail,
-    batch: &mut [u32],
-    state: &mut [u32],
-    records: &mut [u32],
+    batch: &mut [u32; 4096],
+    state: &mut [u32; 4096],
+    records: &mut [u32; 4096],
 ) -> Finding {
     let answer = capture::judge(file, batch, state, records);
     let dword = if answer.window == 0 {
@@ -236,13 +236,20 @@ fn size_of(fd: i32, read: usize) -> Detail {
     size_by_end(libc::lseek(fd, 0, SEEK_END))
 }
 
+// Some of the bytes of a buffer.
+fn part(bytes: &[u8], from: usize, to: usize) -> &[u8]
+    requires { ⌜ (from ≤ to) × (to ≤ length (now bytes)) ⌝ }
+{
+    &bytes[from..to]
+}
+
 // What an open file is. A longer file than any capture is not read further.
 fn look_open(
     fd: i32,
-    file: &mut [u8],
-    batch: &mut [u32],
-    state: &mut [u32],
-    records: &mut [u32],
+    file: &mut [u8; MOST_BYTES],
+    batch: &mut [u32; 4096],
+    state: &mut [u32; 4096],
+    records: &mut [u32; 4096],
 ) -> Look {
     let n = io::read_full(fd, file);
     if n < MOST_BYTES {
@@ -251,15 +258,16 @@ fn look_open(
         }
     }
     let size = size_of(fd, n);
-    Look::Read(judged(&file[..n], size, batch, state, records))
+    let bytes = part(file, 0, n);
+    Look::Read(judged(bytes, size, batch, state, records))
 }
 
 fn look_at(
     name: &[u8],
-    file: &mut [u8],
-    batch: &mut [u32],
-    state: &mut [u32],
-    records: &mut [u32],
+    file: &mut [u8; MOST_BYTES],
+    batch: &mut [u32; 4096],
+    state: &mut [u32; 4096],
+    records: &mut [u32; 4096],
 ) -> Look {
     let fd = os::open_read(name);
     if fd < 0 {
@@ -599,29 +607,26 @@ fn argument(i: usize, entry: &mut [u8; ENTRY]) -> usize
     n
 }
 
-// The bytes of a name in an entry.
-fn part(entry: &[u8], from: usize, to: usize) -> &[u8]
-    requires { ⌜ (from ≤ to) × (to ≤ length (now entry)) ⌝ }
-{
-    &entry[from..to]
-}
-
-// Every buffer is made once and lent for each name: to make them anew would cost more than the check.
-fn audit_arguments(wish: Wish, count: usize, reasons: &mut [u64; REASONS]) -> Run {
-    let mut entry = [0u8; ENTRY];
-    let mut text = [0u8; NAME_BYTES];
-    let mut line = [0u8; LINE_BYTES];
-    let mut file = [0u8; MOST_BYTES];
-    let mut batch = [0u32; 4096];
-    let mut state = [0u32; 4096];
-    let mut records = [0u32; 4096];
+// The captures that arguments name.
+fn audit_arguments(
+    wish: Wish,
+    count: usize,
+    entry: &mut [u8; ENTRY],
+    text: &mut [u8; NAME_BYTES],
+    line: &mut [u8; LINE_BYTES],
+    file: &mut [u8; MOST_BYTES],
+    batch: &mut [u32; 4096],
+    state: &mut [u32; 4096],
+    records: &mut [u32; 4096],
+    reasons: &mut [u64; REASONS],
+) -> Run {
     let mut run = none_yet();
     let mut i = 2;
     while i < count && run.whole {
-        let n = argument(i, &mut entry);
-        let name = part(&entry, 0, n);
-        let look = look_at(name, &mut file, &mut batch, &mut state, &mut records);
-        run = with_name(wish, run, name, look, &mut text, &mut line, reasons);
+        let n = argument(i, entry);
+        let name = part(entry, 0, n);
+        let look = look_at(name, file, batch, state, records);
+        run = with_name(wish, run, name, look, text, line, reasons);
         i += 1;
     }
     run
@@ -631,10 +636,10 @@ fn audit_arguments(wish: Wish, count: usize, reasons: &mut [u64; REASONS]) -> Ru
 fn look_by_letter(
     letter: u8,
     name: &[u8],
-    file: &mut [u8],
-    batch: &mut [u32],
-    state: &mut [u32],
-    records: &mut [u32],
+    file: &mut [u8; MOST_BYTES],
+    batch: &mut [u32; 4096],
+    state: &mut [u32; 4096],
+    records: &mut [u32; 4096],
 ) -> Look {
     if letter == b'u' {
         return Look::Unlisted;
@@ -679,7 +684,39 @@ fn fetch(at: usize, entry: &mut [u8; ENTRY]) -> usize
     end_of(entry, n)
 }
 
-fn audit_stream(wish: Wish, reasons: &mut [u64; REASONS]) -> Run {
+// The captures that the file of names has.
+fn audit_stream(
+    wish: Wish,
+    entry: &mut [u8; ENTRY],
+    text: &mut [u8; NAME_BYTES],
+    line: &mut [u8; LINE_BYTES],
+    file: &mut [u8; MOST_BYTES],
+    batch: &mut [u32; 4096],
+    state: &mut [u32; 4096],
+    records: &mut [u32; 4096],
+    reasons: &mut [u64; REASONS],
+) -> Run {
+    let last = libc::lseek(NAMES, 0, SEEK_END);
+    let mut run = begun(last);
+    let size = names_size(last);
+    let mut at = 0;
+    while at < size && run.whole {
+        let end = fetch(at, entry);
+        if end == 0 {
+            return names_lost(run);
+        }
+        let letter = entry[0];
+        let name = part(entry, 1, end);
+        let look = look_by_letter(letter, name, file, batch, state, records);
+        run = with_name(wish, run, name, look, text, line, reasons);
+        at += end + 1;
+    }
+    run
+}
+
+// Every buffer is made once and lent for each name: to make them anew would cost more than the check.
+fn main() {
+    let wish = asked();
     let mut entry = [0u8; ENTRY];
     let mut text = [0u8; NAME_BYTES];
     let mut line = [0u8; LINE_BYTES];
@@ -687,39 +724,33 @@ fn audit_stream(wish: Wish, reasons: &mut [u64; REASONS]) -> Run {
     let mut batch = [0u32; 4096];
     let mut state = [0u32; 4096];
     let mut records = [0u32; 4096];
-    let last = libc::lseek(NAMES, 0, SEEK_END);
-    let mut run = begun(last);
-    let size = names_size(last);
-    let mut at = 0;
-    while at < size && run.whole {
-        let end = fetch(at, &mut entry);
-        if end == 0 {
-            return names_lost(run);
-        }
-        let letter = entry[0];
-        let name = part(&entry, 1, end);
-        let look = look_by_letter(
-            letter,
-            name,
+    let mut reasons = [0u64; REASONS];
+    let run = if wish.stream {
+        audit_stream(
+            wish,
+            &mut entry,
+            &mut text,
+            &mut line,
             &mut file,
             &mut batch,
             &mut state,
             &mut records,
-        );
-        run = with_name(wish, run, name, look, &mut text, &mut line, reasons);
-        at += end + 1;
-    }
-    run
-}
-
-fn main() {
-    let wish = asked();
-    let mut reasons = [0u64; REASONS];
-    let mut line = [0u8; LINE_BYTES];
-    let run = if wish.stream {
-        audit_stream(wish, &mut reasons)
+            &mut reasons,
+        )
     } else {
-        audit_arguments(wish, os::arg_count(), &mut reasons)
+        let count = os::arg_count();
+        audit_arguments(
+            wish,
+            count,
+            &mut entry,
+            &mut text,
+            &mut line,
+            &mut file,
+            &mut batch,
+            &mut state,
+            &mut records,
+            &mut reasons,
+        )
     };
     let totals = run.totals;
     let whole = run.whole && write_totals(wish, totals, &mut line, &reasons);

@@ -1,10 +1,12 @@
 // Prints document 01's printout of each capture that an argument names, or of the one on standard input.
+ghost use mathlib.Core.Path.{_≡_};
 ghost use Prim.Native.Nat.{_≤_};
 ghost use lib.ListN.{length};
 ghost use Rattle.lines.specs.Lines.{nameBytes};
 use libc::STDERR_FILENO;
 use libc::STDIN_FILENO;
 use libc::STDOUT_FILENO;
+use lines::NAME_BYTES;
 use lines::put_text;
 use reports::ACCEPTED;
 use reports::MOST_BYTES;
@@ -236,24 +238,34 @@ fn answer_input(
     }
 }
 
+// The first n bytes.
+fn front(bytes: &[u8], n: usize) -> &[u8]
+    requires { ⌜ n ≤ length (now bytes) ⌝ }
+    ensures { λ r. ⌜ length (now r) ≡ n ⌝ }
+{
+    &bytes[..n]
+}
+
 fn answer_file(
     page: &mut [u8; PAGE_BYTES],
+    text: &mut [u8; NAME_BYTES],
     batch: &mut [u32; 4096],
     state: &mut [u32; 4096],
     records: &mut [u32; 4096],
     bytes: &mut [u8],
-    name: &mut [u8],
+    name: &[u8],
     among_several: bool,
 ) -> u8
-    requires { ⌜ length (now name) ≤ nameBytes ⌝ }
+    requires { ⌜ length (now name) ≤ 4096 ⌝ }
 {
     let fd = os::open_read(name);
-    reports::plain(name);
+    let n = names::shown(name, text);
+    let shown = front(text, n);
     if fd < 0 {
-        complain(name);
+        complain(shown);
         return UNREAD;
     }
-    let status = answer_input(page, batch, state, records, bytes, fd, name, among_several);
+    let status = answer_input(page, batch, state, records, bytes, fd, shown, among_several);
     libc::close(fd);
     status
 }
@@ -261,6 +273,7 @@ fn answer_file(
 // An argument that is longer than any path fills the buffer, and no path is as long as that.
 fn answer_argument(
     page: &mut [u8; PAGE_BYTES],
+    text: &mut [u8; NAME_BYTES],
     batch: &mut [u32; 4096],
     state: &mut [u32; 4096],
     records: &mut [u32; 4096],
@@ -271,21 +284,32 @@ fn answer_argument(
     let mut name = io::buffer();
     let n = os::arg(i, &mut name);
     if os::errno() == libc::ENAMETOOLONG {
-        return answer_file(page, batch, state, records, bytes, &mut name, among_several);
+        return answer_file(
+            page,
+            text,
+            batch,
+            state,
+            records,
+            bytes,
+            &name,
+            among_several,
+        );
     }
     answer_file(
         page,
+        text,
         batch,
         state,
         records,
         bytes,
-        &mut name[..n],
+        &name[..n],
         among_several,
     )
 }
 
 fn answer_arguments(
     page: &mut [u8; PAGE_BYTES],
+    text: &mut [u8; NAME_BYTES],
     batch: &mut [u32; 4096],
     state: &mut [u32; 4096],
     records: &mut [u32; 4096],
@@ -295,7 +319,7 @@ fn answer_arguments(
     let mut worst = ACCEPTED;
     let mut i = 1;
     while i < count && worst < UNWRITTEN {
-        let status = answer_argument(page, batch, state, records, bytes, i, 2 < count);
+        let status = answer_argument(page, text, batch, state, records, bytes, i, 2 < count);
         worst = worse(worst, status);
         i += 1;
     }
@@ -305,6 +329,7 @@ fn answer_arguments(
 // The buffers are made once, whatever the number of files: clearing them for each would take longer than the check.
 fn main() {
     let mut page = [0u8; PAGE_BYTES];
+    let mut text = [0u8; NAME_BYTES];
     let mut batch = [0u32; 4096];
     let mut state = [0u32; 4096];
     let mut records = [0u32; 4096];
@@ -324,6 +349,7 @@ fn main() {
     } else {
         answer_arguments(
             &mut page,
+            &mut text,
             &mut batch,
             &mut state,
             &mut records,

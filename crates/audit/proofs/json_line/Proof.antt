@@ -2,9 +2,7 @@
 -- Assumes nothing.
 use native.Mathlib.Omega.{arith}
 use mathlib.Core.Path.{sym}
-use lib.ListN.{take}
 use lib.Seq.{length-take-le}
-use Rattle.json.proofs.Bounds.{text-quoted}
 use borrow.Author.Needs.{needs}
 use Rattle.lines.proofs.Putting.{line-within}
 use Rattle.audit.proofs.json_line.Statement.{statement}
@@ -21,7 +19,7 @@ file-line-requires c κs =
     let called = c .before .before .before in
     let words = called .words-of .ensures in
     let front = length-take-le (called .words-of .result) (called .words-of .last .0) (words .0) in
-    (search needs, omega (arith, text-quoted (take (called .words-of .result) (called .words-of .last .0)), front, words .0, words .1))
+    (search needs, omega (arith, front, words .0, words .1))
 
 pub json-line-spec : {M : Type 1} → statement M
 json-line-spec =
