@@ -1,25 +1,31 @@
 -- Rows of one length with no value rule and no address: 10 is all that can be wrong with their dwords.
 -- Assumes nothing.
 use Prim.Native.Nat.{ℕ, _+_, _%_, _≤_}
+use native.Mathlib.Omega.{arith}
 use mathlib.Core.Path.{_≡_, refl, sym, ap, _∙_}
 use mathlib.Core.Bool.{Bool, true, false, cond, not}
 use mathlib.Core.List.{List, [], _∷_}
+use mathlib.Core.Logic.{⊎-elim}
 use lib.ListN.{length, getD}
+use lib.Dec.{eqb}
+use borrow.Author.Tests.{eqb-true, eqb-false}
 use Rattle.rules.specs.declared.Windows.{Windows}
 use Rattle.rules.specs.declared.Level.the-variants.{First}
 use Rattle.rules.specs.declared.Reason.the-variants.{BitNotAllowed}
 use Rattle.rules.specs.Words.{allowed, inGroup, firstFrom}
 use Rattle.rules.specs.Refusals.{numberOf}
-use Rattle.rules.specs.Commands.{exactly, theRow, spot, groupSize}
+use Rattle.rules.specs.Commands.{exactly, theRow, rowOf, spot, groupSize}
 use Rattle.rules.specs.Masks.{headerMask, masksOf, allowedOf, allowedAt, bitWrong}
 use Rattle.rules.specs.Uses.{noUse, accessOf}
 use Rattle.rules.specs.Values.{Rule, noRule, ruleOf, valueWrong}
-use Rattle.rules.proofs.Searching.{finds-none}
+use Rattle.rules.proofs.Searching.{either, finds-none}
 use Rattle.looks.specs.Looks.{contentOf}
-use Rattle.plain_mi.specs.Plain.{coded, firstCoded, wrongOf}
+use Rattle.plain_mi.specs.Plain.{coded, firstCoded, wrongOf, wholeHeader}
+use Rattle.plain_3d.specs.Pointer.{pointerOf}
 use Rattle.plain_mi.proofs.Bare.{no-range}
 use Rattle.plain_mi.proofs.Coding.{alone}
 use Rattle.plain_mi.proofs.Lengths.{listed, as-many, exact-says}
+use Rattle.plain_mi.proofs.Whole.{WholeRow, whole-refuses, head-is, head-fits, first-answers, then-answers}
 
 no-value : (r : ℕ) → ruleOf r ≡ noRule → (d : List ℕ) → valueWrong r d ≡ (λ (k : ℕ). false)
 unfolding valueWrong
@@ -41,10 +47,38 @@ module _ (r f : ℕ) (t : theRow r .total ≡ exactly f) (no-rule : ruleOf r ≡
       ∙ bits-only (listed rest 0 (f + 2)))
 
 -- with one dword behind the header: whether that keeps its mask
-pub dword-decides : (r : ℕ) → theRow r .total ≡ exactly 0 → ruleOf r ≡ noRule → accessOf r ≡ noUse → (mask : ℕ)
-    → theRow r .masks ≡ mask ∷ [] → (w : Windows) (rest : List ℕ) → getD rest 0 0 % 256 ≡ 0 → 2 ≤ length rest
-    → allowed (getD rest 0 0) (headerMask (theRow r)) ≡ true → (wrong : Bool) → not (allowed (getD rest 1 0) mask) ≡ wrong
-    → cond wrong 2561 0 ≡ wrongOf w r rest First
-unfolding coded firstFrom numberOf bitWrong allowedAt allowedOf masksOf inGroup groupSize
-dword-decides r t no-rule no-use mask masks w rest e h kept true a = bits-say r 0 t no-rule no-use w rest e h (rw (kept, masks, a))
-dword-decides r t no-rule no-use mask masks w rest e h kept false a = bits-say r 0 t no-rule no-use w rest e h (rw (kept, masks, a))
+pub record PointerRow (r header mask : ℕ) : Type 0 where
+  pub one : WholeRow r header
+  pub short : header % 256 ≡ 0
+  pub no-rule : ruleOf r ≡ noRule
+  pub no-use : accessOf r ≡ noUse
+  pub kept : allowed header (headerMask (theRow r)) ≡ true
+  pub masks : theRow r .masks ≡ mask ∷ []
+
+module _ {r header mask : ℕ} (g : PointerRow r header mask) (w : Windows) (rest : List ℕ) where
+  total : theRow r .total ≡ exactly 0
+  total = g .one .total ∙ ap exactly (g .short)
+
+  module _ (z : wholeHeader rest header ≡ 0) where
+    field : getD rest 0 0 % 256 ≡ 0
+    field = ap (λ (h : ℕ). h % 256) (head-is rest header refl z) ∙ g .short
+
+    fits : 2 ≤ length rest
+    fits = omega (arith, head-fits rest header refl z, g .short)
+
+    kept : allowed (getD rest 0 0) (headerMask (theRow r)) ≡ true
+    kept = ap (λ (h : ℕ). allowed h (headerMask (theRow r))) (head-is rest header refl z) ∙ g .kept
+
+    dword-decides : (wrong : Bool) → not (allowed (getD rest 1 0) mask) ≡ wrong → cond wrong 2561 0 ≡ wrongOf w r rest First
+    unfolding coded firstFrom numberOf bitWrong allowedAt allowedOf masksOf inGroup groupSize
+    dword-decides true a = bits-say r 0 total (g .no-rule) (g .no-use) w rest field fits (rw (kept, g .masks, a))
+    dword-decides false a = bits-say r 0 total (g .no-rule) (g .no-use) w rest field fits (rw (kept, g .masks, a))
+
+  pub pointer-decides : rowOf (getD rest 0 0) ≡ r → {x : ℕ} → x ≡ pointerOf rest header mask → x ≡ wrongOf w r rest First
+  unfolding pointerOf
+  pointer-decides row e =
+      ⊎-elim
+      (λ p. let z = eqb-true (wholeHeader rest header) 0 p in e ∙ then-answers _ _ z ∙ dword-decides z _ refl)
+      (λ p.
+      let n = eqb-false (wholeHeader rest header) 0 p in
+      e ∙ first-answers _ _ n ∙ whole-refuses (g .one) w rest First refl row n) (either (eqb (wholeHeader rest header) 0))

@@ -14,7 +14,7 @@ use Rattle.rules.specs.declared.Level.{Level}
 use Rattle.rules.specs.declared.Level.the-variants.{First, Second}
 use Rattle.rules.specs.declared.Fault.{Fault}
 use Rattle.rules.specs.declared.Verdict.{Verdict}
-use Rattle.rules.specs.declared.Verdict.the-variants.{Pass, Fails}
+use Rattle.rules.specs.declared.Verdict.the-variants.{Fails}
 use Rattle.rules.specs.declared.Reason.the-variants.{UnknownHeader, WrongLength}
 use Rattle.rules.specs.Words.{field}
 use Rattle.rules.specs.Refusals.{batchWindow, numberOf, fault, refuseIf}
@@ -22,7 +22,7 @@ use Rattle.rules.specs.Commands.{startRow, noField, exactly, rows, theRow, rowF
 use Rattle.rules.specs.Uses.{noUse, accessOf}
 use Rattle.rules.specs.Masks.{allowedOf, allowedAt, bitWrong}
 use Rattle.rules.specs.Values.{noRule, ruleOf}
-use Rattle.rules.specs.Step.{headerAt, rowAt, lengthAt, nested}
+use Rattle.rules.specs.Step.{headerAt, rowAt, nested}
 use Rattle.rules.proofs.Trying.{refuse-passes}
 use Rattle.looks.specs.declared.Look.the-variants.{Whole, Wrong}
 use Rattle.looks.specs.Looks.{contentOf, ownOf, lookOf}

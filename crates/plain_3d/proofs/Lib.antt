@@ -1,2 +1,6 @@
 pub mod BitsOnly
+pub mod Rows
 pub mod Deciding
+pub mod FormatWords
+pub mod Controls
+pub mod BufferRanges

@@ -1,2 +1,4 @@
 pub mod Seeing
 pub mod Stray
+pub mod Pointer
+pub mod Codes

@@ -11,7 +11,6 @@ use plain_mi::numbers;
 use plain_mi::numbers::NOTHING;
 use plain_mi::numbers::fault_of;
 use plain_mi::type_0;
-use plain_vertex::vertex;
 use rules::Level;
 use rules::Windows;
 use rules::names::BASE_ROW;
@@ -33,6 +32,7 @@ use rules::names::VERTEX_BUFFERS_ROW;
 use rules::names::VERTEX_ELEMENTS_ROW;
 use rules::names::VIEWPORT_ROW;
 
+mod codes;
 mod type_3;
 
 // What is seen of a command: its row, its length, and what is wrong with it (`numbers`). ROWS is no row.
@@ -103,12 +103,12 @@ fn seen_of_type_3(batch: &[u32], at: usize, w: Windows) -> Seen
         0x7808 => found(
             VERTEX_BUFFERS_ROW,
             length_by_field(header),
-            vertex::vertex_buffers(w, from(batch, at)),
+            type_3::vertex_buffers(w, from(batch, at)),
         ),
         0x7809 => found(
             VERTEX_ELEMENTS_ROW,
             length_by_field(header),
-            vertex::vertex_elements(from(batch, at)),
+            type_3::vertex_elements(from(batch, at)),
         ),
         0x780A => found(
             INDEX_BUFFER_ROW,

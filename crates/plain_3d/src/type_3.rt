@@ -1,22 +1,29 @@
-// Rows 7 to 9 and 12 to 16, the commands of type 3 without groups, in the table's order: each row's rules in the order of their numbers, beside
-// document 01's words. Rows 10 and 11 stand in `plain_vertex`.
+// Rows 7 to 16, the commands of type 3, in the table's order: each row's rules in the order of their numbers, beside document 01's words.
 ghost use mathlib.Core.Path.{_≡_};
-ghost use mathlib.Core.Bool.{true, not};
+ghost use mathlib.Core.Bool.{true, not, false};
 ghost use mathlib.Core.List.{[], _∷_};
-ghost use Prim.Native.Nat.{_+_, _*_, _≤_, _<_, _-_};
+ghost use Prim.Native.Nat.{_+_, _*_, _%_, _≤_, _<_, _-_, _^_};
 ghost use lib.ListN.{length, getD};
 ghost use Rattle.rules.specs.declared.Level.the-variants.{First};
 ghost use Rattle.rules.specs.declared.Reason.the-variants.{BitNotAllowed, ValueBroken};
 ghost use Rattle.rules.specs.Words.{bit, allowed};
 ghost use Rattle.rules.specs.Refusals.{batchWindow, refuseFound};
-ghost use Rattle.rules.specs.Commands.{pipeRow, selectRow, baseRow, indexBufferRow, topologyRow, viewportRow, colourRow, primitiveRow, rowOf};
+ghost use Rattle.rules.specs.Commands.{pipeRow, selectRow, baseRow, indexBufferRow, topologyRow, viewportRow, colourRow, primitiveRow, rowOf, vertexBuffersRow, vertexElementsRow};
 ghost use Rattle.rules.specs.Uses.{postSync};
-ghost use Rattle.rules.specs.Values.{valueWrong};
-ghost use Rattle.plain_mi.specs.Plain.{coded, firstCoded, wrongOf, bareOf};
+ghost use Rattle.rules.specs.Values.{valueWrong, componentsWrong};
+ghost use Rattle.plain_mi.specs.Plain.{coded, firstCoded, firstBy, wrongOf, bareOf, noWindows, cleanFrom, Groups, GroupAt};
 ghost use Rattle.plain_3d.specs.Stray.{strayFrom};
+ghost use Rattle.plain_3d.specs.Pointer.{pointerOf};
+ghost use Rattle.rules.specs.Addresses.{rangeWrong};
+ghost use Rattle.rules.specs.Masks.{bitWrong};
+ghost use Rattle.looks.specs.Looks.{contentOf};
+use crate::codes::known_format;
 use formats::known_topology;
+use plain_mi::heads::groups_header;
+use plain_mi::heads::length_by_field;
 use plain_mi::heads::other_header;
 use plain_mi::heads::sized_fits;
+use plain_mi::heads::whole_header;
 use plain_mi::numbers::BIT;
 use plain_mi::numbers::NOTHING;
 use plain_mi::numbers::PAST;
@@ -34,11 +41,9 @@ pub fn pipe(w: Windows, rest: &[u32]) -> usize
     ensures { λ r. ⌜ r ≡ wrongOf w pipeRow (now (rest .entry)) First ⌝ }
 {
     // 8, 9, 10: "7A000004h"
-    if rest[0] != 0x7A00_0004 {
-        return other_header(rest, 4);
-    }
-    if rest.len() < 6 {
-        return at(PAST, 0);
+    let head = whole_header(rest, 0x7A00_0004);
+    if head != NOTHING {
+        return head;
     }
     // 10: "0010FCBFh, address FFFFFFFCh, 2 free"
     if !allowed(rest[1], 0x0010_FCBF) {
@@ -103,11 +108,9 @@ pub fn base(rest: &[u32]) -> usize
     ensures { λ r. ⌜ r ≡ bareOf baseRow (now (rest .entry)) ⌝ }
 {
     // 8, 9, 10: "6101000Eh"
-    if rest[0] != 0x6101_000E {
-        return other_header(rest, 14);
-    }
-    if rest.len() < 16 {
-        return at(PAST, 0);
+    let head = whole_header(rest, 0x6101_000E);
+    if head != NOTHING {
+        return head;
     }
     // 10: "dwords 1, 4, 6, 8, 10 allow FFFFF7F1h; 2, 5, 7, 9, 11 allow 0000FFFFh; 3 allows 007F0000h; 12 to 15 allow FFFFF001h"
     let first = four_bits(rest, 0, 0x6101_000E, 0xFFFF_F7F1, 0x0000_FFFF, 0x007F_0000);
@@ -145,17 +148,286 @@ fn four_bits(d: &[u32], k: usize, a: u32, b: u32, m: u32, n: u32) -> usize
     NOTHING
 }
 
+// 10: 3DSTATE_VERTEX_BUFFERS.
+pub fn vertex_buffers(w: Windows, rest: &[u32]) -> usize
+    requires { ⌜ (0 < length (now rest)) × (rowOf (getD (now rest) 0 0) ≡ vertexBuffersRow) ⌝ }
+    ensures { λ r. ⌜ r ≡ wrongOf w vertexBuffersRow (now (rest .entry)) First ⌝ }
+{
+    // 8, 9, 10: "78080000h, field 4n-1, n 1..33"
+    let head = groups_header(rest, 0x7808_0000, 4, 33);
+    if head != NOTHING {
+        return head;
+    }
+    let length = length_by_field(rest[0]);
+    buffers(w, &rest[..length])
+}
+
+// 10: "n of FC7F6FFFh, address free, free", of the buffer at k.
+fn buffer_bit(d: &[u32], k: usize) -> usize
+    requires { ⌜ GroupAt 4 (now d) k ⌝ }
+    ensures { λ r. ⌜ r ≡ firstCoded BitNotAllowed (bitWrong vertexBuffersRow (now (d .entry))) k 4 ⌝ }
+{
+    if !allowed(d[k], 0xFC7F_6FFF) {
+        return at(BIT, k);
+    }
+    if !allowed(d[k + 2], 0x0000_FFFF) {
+        return at(BIT, k + 2);
+    }
+    NOTHING
+}
+
+// 12: "index (31:26) at most 32, pitch (11:0) at most 2,048".
+fn buffer_value(d: &[u32], k: usize) -> usize
+    requires { ⌜ GroupAt 4 (now d) k ⌝ }
+    ensures { λ r. ⌜ r ≡ firstCoded ValueBroken (valueWrong vertexBuffersRow (now (d .entry))) k 4 ⌝ }
+{
+    if 32 < d[k] / 0x400_0000 {
+        return at(VALUE, k);
+    }
+    if 2048 < d[k] % 0x1000 {
+        return at(VALUE, k);
+    }
+    NOTHING
+}
+
+// 13: "Row 10 with bit 13 clear, bit 14 set and size not 0: the range in one window".
+fn buffer_fits(w: Windows, d: &[u32], k: usize) -> bool
+    requires { ⌜ GroupAt 4 (now d) k ⌝ }
+    ensures { λ r. ⌜ r ≡ not (rangeWrong w vertexBuffersRow (now (d .entry)) (k + 1)) ⌝ }
+{
+    if d[k] / 0x2000 % 4 != 2 {
+        return true;
+    }
+    sized_fits(w, d[k + 1], d[k + 2], d[k + 3])
+}
+
+// Whether nothing is wrong with the buffer at k.
+fn buffer_good(w: Windows, d: &[u32], k: usize) -> bool
+    requires { ⌜ GroupAt 4 (now d) k ⌝ }
+    ensures { λ r. ⌜ r ≡ cleanFrom w vertexBuffersRow (now (d .entry)) k 4 ⌝ }
+{
+    if buffer_bit(d, k) != NOTHING {
+        return false;
+    }
+    if buffer_value(d, k) != NOTHING {
+        return false;
+    }
+    buffer_fits(w, d, k)
+}
+
+// Whether nothing is wrong with any buffer.
+fn buffers_good(w: Windows, d: &[u32]) -> bool
+    requires { ⌜ Groups 4 (now d) ⌝ }
+    ensures { λ r. ⌜ r ≡ cleanFrom w vertexBuffersRow (now (d .entry)) 1 (length (now (d .entry)) - 1) ⌝ }
+{
+    let mut k = 1;
+    while k < d.len() {
+        if !buffer_good(w, d, k) {
+            return false;
+        }
+        k += 4;
+    }
+    true
+}
+
+// What the check of this number says of the buffer at k.
+fn buffer_wrong(number: usize, w: Windows, d: &[u32], k: usize) -> usize
+    requires { ⌜ GroupAt 4 (now d) k ⌝ }
+    ensures { λ r. ⌜ r ≡ firstBy w vertexBuffersRow (now (d .entry)) number k 4 ⌝ }
+{
+    if number == BIT {
+        return buffer_bit(d, k);
+    }
+    if number == VALUE {
+        return buffer_value(d, k);
+    }
+    if !buffer_fits(w, d, k) {
+        return at(RANGE, k + 1);
+    }
+    NOTHING
+}
+
+// The first that the check of this number finds in all buffers.
+fn first_of_buffers(number: usize, w: Windows, d: &[u32]) -> usize
+    requires { ⌜ Groups 4 (now d) ⌝ }
+    ensures { λ r. ⌜ r ≡ firstBy w vertexBuffersRow (now (d .entry)) number 1 (length (now (d .entry)) - 1) ⌝ }
+{
+    let mut k = 1;
+    while k < d.len() {
+        let wrong = buffer_wrong(number, w, d, k);
+        if wrong != NOTHING {
+            return wrong;
+        }
+        k += 4;
+    }
+    NOTHING
+}
+
+// All buffers: most are in order, and else the first 10 goes before the first 12, and that before the first 13, wherever they stand.
+fn buffers(w: Windows, d: &[u32]) -> usize
+    requires { ⌜ (Groups 4 (now d)) × (bitWrong vertexBuffersRow (now d) 0 ≡ false) ⌝ }
+    ensures { λ r. ⌜ r ≡ coded (contentOf w vertexBuffersRow (now (d .entry)) 0 First) ⌝ }
+{
+    if buffers_good(w, d) {
+        return NOTHING;
+    }
+    let bit = first_of_buffers(BIT, w, d);
+    if bit != NOTHING {
+        return bit;
+    }
+    let value = first_of_buffers(VALUE, w, d);
+    if value != NOTHING {
+        return value;
+    }
+    first_of_buffers(RANGE, w, d)
+}
+
+// 11: 3DSTATE_VERTEX_ELEMENTS.
+pub fn vertex_elements(rest: &[u32]) -> usize
+    requires { ⌜ (0 < length (now rest)) × (rowOf (getD (now rest) 0 0) ≡ vertexElementsRow) ⌝ }
+    ensures { λ r. ⌜ r ≡ bareOf vertexElementsRow (now (rest .entry)) ⌝ }
+{
+    // 8, 9, 10: "78090000h, field 2n-1, n 1..34"
+    let head = groups_header(rest, 0x7809_0000, 2, 34);
+    if head != NOTHING {
+        return head;
+    }
+    let length = length_by_field(rest[0]);
+    elements(&rest[..length])
+}
+
+// 10: "n of FFFF8FFFh, 77770000h", of the element at k.
+fn element_bit(d: &[u32], k: usize) -> usize
+    requires { ⌜ GroupAt 2 (now d) k ⌝ }
+    ensures { λ r. ⌜ r ≡ firstCoded BitNotAllowed (bitWrong vertexElementsRow (now (d .entry))) k 2 ⌝ }
+{
+    if !allowed(d[k], 0xFFFF_8FFF) {
+        return at(BIT, k);
+    }
+    if !allowed(d[k + 1], 0x7777_0000) {
+        return at(BIT, k + 1);
+    }
+    NOTHING
+}
+
+// "component controls, in bits 30:28, 26:24, 22:20, 18:16, each at most 4, component 0 not 0, and after a 0 only 0", of a word that keeps its mask:
+// above each control a bit is clear, which 3 sets in one above 4, and 7 in one that is not 0.
+fn controls_good(word: u32) -> bool
+    requires { ⌜ allowed word 0x77770000 ≡ true ⌝ }
+    ensures { λ r. ⌜ r ≡ not (componentsWrong word) ⌝ }
+{
+    let over = word + 0x3333_0000;
+    let used = word + 0x7777_0000;
+    // four that are not 0, and none above 4
+    if (over ^ used) & 0x8888_0000 == 0x8888_0000 {
+        return true;
+    }
+    if over & 0x8888_0000 != 0 {
+        return false;
+    }
+    // fewer: the first, and each other only behind one that is used
+    let some = used & 0x8888_0000;
+    0x8000_0000 <= some && allowed(some % 0x8000_0000, some / 16)
+}
+
+// 12 of the element at k: "index at most 32; format (24:16) with an entry above 0 in SURFACE_FORMAT", and the controls.
+fn element_value(d: &[u32], k: usize) -> usize
+    requires { ⌜ (GroupAt 2 (now d) k) × (allowed (getD (now d) (k + 1) 0) 0x77770000 ≡ true) ⌝ }
+    ensures { λ r. ⌜ r ≡ firstCoded ValueBroken (valueWrong vertexElementsRow (now (d .entry))) k 2 ⌝ }
+{
+    let word = d[k];
+    if 32 < word / 0x400_0000 {
+        return at(VALUE, k);
+    }
+    if !known_format(word / 0x1_0000 % 0x200) {
+        return at(VALUE, k);
+    }
+    if !controls_good(d[k + 1]) {
+        return at(VALUE, k + 1);
+    }
+    NOTHING
+}
+
+// Whether nothing is wrong with the element at k.
+fn element_good(d: &[u32], k: usize) -> bool
+    requires { ⌜ GroupAt 2 (now d) k ⌝ }
+    ensures { λ r. ⌜ r ≡ cleanFrom noWindows vertexElementsRow (now (d .entry)) k 2 ⌝ }
+{
+    if element_bit(d, k) != NOTHING {
+        return false;
+    }
+    element_value(d, k) == NOTHING
+}
+
+// Whether nothing is wrong with any element.
+fn elements_good(d: &[u32]) -> bool
+    requires { ⌜ Groups 2 (now d) ⌝ }
+    ensures { λ r. ⌜ r ≡ cleanFrom noWindows vertexElementsRow (now (d .entry)) 1 (length (now (d .entry)) - 1) ⌝ }
+{
+    let mut k = 1;
+    while k < d.len() {
+        if !element_good(d, k) {
+            return false;
+        }
+        k += 2;
+    }
+    true
+}
+
+// What the check of this number says of the element at k; 13 has nothing to say, since an element has no address.
+fn element_wrong(number: usize, d: &[u32], k: usize) -> usize
+    requires { ⌜ (GroupAt 2 (now d) k) × ((number ≡ 12) → allowed (getD (now d) (k + 1) 0) 0x77770000 ≡ true) ⌝ }
+    ensures { λ r. ⌜ r ≡ firstBy noWindows vertexElementsRow (now (d .entry)) number k 2 ⌝ }
+{
+    if number == BIT {
+        return element_bit(d, k);
+    }
+    if number == VALUE {
+        return element_value(d, k);
+    }
+    NOTHING
+}
+
+// The first that the check of this number finds in all elements; the values are asked for once no bit is wrong.
+fn first_of_elements(number: usize, d: &[u32]) -> usize
+    requires { ⌜ (Groups 2 (now d)) × ((number ≡ 12) → firstBy noWindows vertexElementsRow (now d) 10 1 (length (now d) - 1) ≡ 0) ⌝ }
+    ensures { λ r. ⌜ r ≡ firstBy noWindows vertexElementsRow (now (d .entry)) number 1 (length (now (d .entry)) - 1) ⌝ }
+{
+    let mut k = 1;
+    while k < d.len() {
+        let wrong = element_wrong(number, d, k);
+        if wrong != NOTHING {
+            return wrong;
+        }
+        k += 2;
+    }
+    NOTHING
+}
+
+// All elements: most are in order, and else the first 10 goes before the first 12, wherever they stand.
+fn elements(d: &[u32]) -> usize
+    requires { ⌜ (Groups 2 (now d)) × (bitWrong vertexElementsRow (now d) 0 ≡ false) ⌝ }
+    ensures { λ r. ⌜ r ≡ coded (contentOf noWindows vertexElementsRow (now (d .entry)) 0 First) ⌝ }
+{
+    if elements_good(d) {
+        return NOTHING;
+    }
+    let bit = first_of_elements(BIT, d);
+    if bit != NOTHING {
+        return bit;
+    }
+    first_of_elements(VALUE, d)
+}
+
 // 12: 3DSTATE_INDEX_BUFFER.
 pub fn index_buffer(w: Windows, rest: &[u32]) -> usize
     requires { ⌜ (0 < length (now rest)) × (rowOf (getD (now rest) 0 0) ≡ indexBufferRow) ⌝ }
     ensures { λ r. ⌜ r ≡ wrongOf w indexBufferRow (now (rest .entry)) First ⌝ }
 {
     // 8, 9, 10: "780A0003h"
-    if rest[0] != 0x780A_0003 {
-        return other_header(rest, 3);
-    }
-    if rest.len() < 5 {
-        return at(PAST, 0);
+    let head = whole_header(rest, 0x780A_0003);
+    if head != NOTHING {
+        return head;
     }
     // 10: "37Fh, address free, free"
     if !allowed(rest[1], 0x0000_037F) {
@@ -181,11 +453,9 @@ pub fn topology(rest: &[u32]) -> usize
     ensures { λ r. ⌜ r ≡ bareOf topologyRow (now (rest .entry)) ⌝ }
 {
     // 8, 9, 10: "784B0000h"
-    if rest[0] != 0x784B_0000 {
-        return other_header(rest, 0);
-    }
-    if rest.len() < 2 {
-        return at(PAST, 0);
+    let head = whole_header(rest, 0x784B_0000);
+    if head != NOTHING {
+        return head;
     }
     // 10: "3Fh"
     if !allowed(rest[1], 0x0000_003F) {
@@ -203,18 +473,8 @@ pub fn viewport(rest: &[u32]) -> usize
     requires { ⌜ (0 < length (now rest)) × (rowOf (getD (now rest) 0 0) ≡ viewportRow) ⌝ }
     ensures { λ r. ⌜ r ≡ bareOf viewportRow (now (rest .entry)) ⌝ }
 {
-    // 8, 9, 10: "78230000h"
-    if rest[0] != 0x7823_0000 {
-        return other_header(rest, 0);
-    }
-    if rest.len() < 2 {
-        return at(PAST, 0);
-    }
-    // 10: "FFFFFFE0h"
-    if !allowed(rest[1], 0xFFFF_FFE0) {
-        return at(BIT, 1);
-    }
-    NOTHING
+    // 8, 9, 10: "78230000h", "FFFFFFE0h"
+    pointer(rest, 0x7823_0000, 0xFFFF_FFE0)
 }
 
 // 15: 3DSTATE_CC_STATE_POINTERS.
@@ -222,15 +482,20 @@ pub fn colour(rest: &[u32]) -> usize
     requires { ⌜ (0 < length (now rest)) × (rowOf (getD (now rest) 0 0) ≡ colourRow) ⌝ }
     ensures { λ r. ⌜ r ≡ bareOf colourRow (now (rest .entry)) ⌝ }
 {
-    // 8, 9, 10: "780E0000h"
-    if rest[0] != 0x780E_0000 {
-        return other_header(rest, 0);
+    // 8, 9, 10: "780E0000h", "FFFFFFC1h"
+    pointer(rest, 0x780E_0000, 0xFFFF_FFC1)
+}
+
+// A row of a header and one dword, which has to keep a mask.
+fn pointer(rest: &[u32], header: u32, mask: u32) -> usize
+    requires { ⌜ (0 < length (now rest)) × (header % 256 ≡ 0) ⌝ }
+    ensures { λ r. ⌜ r ≡ pointerOf (now (rest .entry)) header mask ⌝ }
+{
+    let head = whole_header(rest, header);
+    if head != NOTHING {
+        return head;
     }
-    if rest.len() < 2 {
-        return at(PAST, 0);
-    }
-    // 10: "FFFFFFC1h"
-    if !allowed(rest[1], 0xFFFF_FFC1) {
+    if !allowed(rest[1], mask) {
         return at(BIT, 1);
     }
     NOTHING

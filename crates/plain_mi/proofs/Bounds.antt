@@ -175,12 +175,7 @@ told (Fails f) a n =
       most = omega (arith, near .most, place);
     }
 
--- so a command of which nothing is wrong passes, and else its number tells what is
-module _ (w : Windows) (r : ℕ) (rest : List ℕ) (level : Level) where
-  pub wrong-passes : wrongOf w r rest level ≡ 0 → verdictOf w r rest level ≡ Pass
-  unfolding wrongOf
-  wrong-passes e = coded-passes _ e
-
-  pub wrong-told : r < rowCount → (wrongOf w r rest level ≡ 0 → ⊥) → Told (verdictOf w r rest level)
-  unfolding wrongOf
-  wrong-told h n = told (verdictOf w r rest level) (verdict-near w r rest level h) n
+-- a command of which nothing is wrong passes
+pub wrong-passes : (w : Windows) (r : ℕ) (rest : List ℕ) (level : Level) → wrongOf w r rest level ≡ 0 → verdictOf w r rest level ≡ Pass
+unfolding wrongOf
+wrong-passes w r rest level e = coded-passes _ e

@@ -49,10 +49,6 @@ module _ (reason : Reason) (bad : ℕ → Bool) where
   unfolding coded firstFrom
   none-left k = refl
 
-  pub nothing-coded : (k n : ℕ) → firstFrom bad k n ≡ Nothing → firstCoded reason bad k n ≡ 0
-  unfolding coded
-  nothing-coded k n e = ap (λ (f : Found). coded (refuseFound reason batchWindow 0 f)) e
-
   pub coded-nothing : (k n : ℕ) → firstCoded reason bad k n ≡ 0 → firstFrom bad k n ≡ Nothing
   coded-nothing k n e = by-case (firstFrom bad k n) (coded-passes _ e)
     where

@@ -15,15 +15,16 @@ use Rattle.rules.specs.declared.Reason.the-variants.{BitNotAllowed, ValueBroken
 use Rattle.rules.specs.declared.Windows.{Windows}
 use Rattle.rules.specs.Words.{firstFrom}
 use Rattle.rules.specs.Refusals.{batchWindow, refuseFound, numberOf}
+use Rattle.rules.specs.Uses.{noUse, accessOf}
 use Rattle.rules.specs.Masks.{bitWrong}
 use Rattle.rules.specs.Values.{valueWrong}
 use Rattle.rules.specs.Addresses.{rangeWrong}
 use Rattle.rules.specs.Step.{nested}
 use Rattle.rules.proofs.Searching.{either}
 use Rattle.looks.specs.Looks.{orElse, contentOf}
-use Rattle.plain_mi.specs.Plain.{coded, firstCoded, freeFrom, cleanFrom}
+use Rattle.plain_mi.specs.Plain.{coded, firstCoded, firstBy, freeFrom, cleanFrom}
 use Rattle.plain_mi.proofs.Coding.{first-says, second-says, is-first, not-first}
-use Rattle.plain_mi.proofs.Cleanness.{free-coded, clean-bits, clean-values, clean-ranges}
+use Rattle.plain_mi.proofs.Cleanness.{free-coded, clean-bits, clean-values, clean-ranges, no-ranges}
 
 -- a header in order: no bit, no value and no range is wrong there, and the command is no start in a second-level batch
 pub record HeaderRight (w : Windows) (r : ℕ) (d : List ℕ) (level : Level) : Type 0 where
@@ -51,7 +52,7 @@ module _ {w : Windows} {r : ℕ} {d : List ℕ} {level : Level} (h : HeaderRight
       ap (firstCoded reason bad 0) n ∙ not-first reason bad 0 (length d - 1) e
 
   -- 10 of some dword
-  pub bit-says : (firstCoded BitNotAllowed (bitWrong r d) 1 (length d - 1) ≡ 0 → ⊥)
+  bit-says : (firstCoded BitNotAllowed (bitWrong r d) 1 (length d - 1) ≡ 0 → ⊥)
       → coded (contentOf w r d 0 level) ≡ firstCoded BitNotAllowed (bitWrong r d) 1 (length d - 1)
   unfolding contentOf
   bit-says n =
@@ -66,14 +67,14 @@ module _ {w : Windows} {r : ℕ} {d : List ℕ} {level : Level} (h : HeaderRight
     values-on = second-says _ _ (behind BitNotAllowed (bitWrong r d) (h .bits) ∙ e) ∙ rw (h .quiet)
 
     -- 12 of some dword
-    pub value-says : (firstCoded ValueBroken (valueWrong r d) 1 (length d - 1) ≡ 0 → ⊥)
+    value-says : (firstCoded ValueBroken (valueWrong r d) 1 (length d - 1) ≡ 0 → ⊥)
         → coded (contentOf w r d 0 level) ≡ firstCoded ValueBroken (valueWrong r d) 1 (length d - 1)
     value-says n =
         let b = behind ValueBroken (valueWrong r d) (h .value) in
         values-on ∙ first-says _ _ (λ z. n (sym b ∙ z)) ∙ b
 
     -- and else 13
-    pub range-says : firstCoded ValueBroken (valueWrong r d) 1 (length d - 1) ≡ 0
+    range-says : firstCoded ValueBroken (valueWrong r d) 1 (length d - 1) ≡ 0
         → coded (contentOf w r d 0 level) ≡ firstCoded RangeOutside (rangeWrong w r d) 1 (length d - 1)
     range-says f =
         values-on
@@ -81,13 +82,33 @@ module _ {w : Windows} {r : ℕ} {d : List ℕ} {level : Level} (h : HeaderRight
         ∙ behind RangeOutside (rangeWrong w r d) (h .range)
 
     -- where there is no address, 12 says all that is left
-    pub value-decides : freeFrom (rangeWrong w r d) 1 (length d - 1) ≡ true
+    value-decides : freeFrom (rangeWrong w r d) 1 (length d - 1) ≡ true
         → coded (contentOf w r d 0 level) ≡ firstCoded ValueBroken (valueWrong r d) 1 (length d - 1)
     value-decides free =
         ⊎-elim (λ p. let z = eqb-true _ _ p in range-says z ∙ free-coded _ _ 1 (length d - 1) free ∙ sym z)
         (λ p. value-says (eqb-false _ _ p))
         (either (eqb (firstCoded ValueBroken (valueWrong r d) 1 (length d - 1)) 0))
 
-  -- groups in order
-  pub nothing-said : cleanFrom w r d 1 (length d - 1) ≡ true → coded (contentOf w r d 0 level) ≡ 0
-  nothing-said e = range-says (clean-bits w r d 1 _ e) (clean-values w r d 1 _ e) ∙ clean-ranges w r d 1 _ e
+  -- the same of what the code has asked of the groups: nothing is wrong with them, or the first 10, the first 12, the first 13
+  pub all-clean : {x : Bool} → x ≡ cleanFrom w r d 1 (length d - 1) → x ≡ true → 0 ≡ coded (contentOf w r d 0 level)
+  all-clean e z =
+      let clean = sym e ∙ z in
+      sym (range-says (clean-bits w r d 1 _ clean) (clean-values w r d 1 _ clean) ∙ clean-ranges w r d 1 _ clean)
+
+  module _ {x : ℕ} (e : x ≡ firstBy w r d 10 1 (length d - 1)) where
+    pub bit-first : (x ≡ 0 → ⊥) → x ≡ coded (contentOf w r d 0 level)
+    unfolding firstBy
+    bit-first n = e ∙ sym (bit-says (λ z. n (e ∙ z)))
+
+    module _ (z : x ≡ 0) {y : ℕ} (f : y ≡ firstBy w r d 12 1 (length d - 1)) where
+      pub value-first : (y ≡ 0 → ⊥) → y ≡ coded (contentOf w r d 0 level)
+      unfolding firstBy
+      value-first n = f ∙ sym (value-says (sym e ∙ z) (λ q. n (f ∙ q)))
+
+      pub value-last : accessOf r ≡ noUse → y ≡ coded (contentOf w r d 0 level)
+      unfolding firstBy
+      value-last uses = f ∙ sym (value-decides (sym e ∙ z) (no-ranges w r d uses 1 _))
+
+      pub range-last : y ≡ 0 → {v : ℕ} → v ≡ firstBy w r d 13 1 (length d - 1) → v ≡ coded (contentOf w r d 0 level)
+      unfolding firstBy
+      range-last q g = g ∙ sym (range-says (sym e ∙ z) (sym f ∙ q))

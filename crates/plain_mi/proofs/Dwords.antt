@@ -10,9 +10,10 @@ use lib.Bits.{and-mask}
 use lib.ListN.{getD}
 use borrow.Author.Tests.{ne-eqb, eq-eqb, not-false}
 use Rattle.rules.specs.Words.{allowed, field, inGroup}
-use Rattle.rules.specs.Commands.{spot}
+use Rattle.rules.specs.Commands.{spot, groupSize}
 use Rattle.rules.specs.Masks.{allowedOf, masksOf, allowedAt, bitWrong}
 use Rattle.rules.specs.Values.{ruleOf, valueWrong}
+use Rattle.plain_mi.specs.Plain.{GroupAt}
 
 -- the dword i of a group that starts at k
 pub spot-in : (size k i : ℕ) {j : ℕ} → 1 ≤ k → (k - 1) % size ≡ 0 → i < size → j ≡ k + i → inGroup size j ≡ i + 1
@@ -49,3 +50,18 @@ module _ (r : ℕ) (d : List ℕ) (k j : ℕ) (s : spot r k ≡ j) where
 
   pub kept-at : {m : ℕ} → getD (masksOf r) j 0 ≡ m → bitWrong r d k ≡ false → allowed (getD d k 0) m ≡ true
   kept-at e f = not-false _ (sym (bit-at e refl) ∙ f)
+
+-- by the group that the dword stands in
+module _ (r : ℕ) {size : ℕ} (of-size : groupSize r ≡ size) (d : List ℕ) (k : ℕ) (g : GroupAt size d k) (i : ℕ) {j : ℕ} (h : i < size)
+    (q : j ≡ k + i) where
+  in-group : spot r j ≡ i + 1
+  in-group = ap (λ (n : ℕ). inGroup n j) of-size ∙ spot-in size k i (g .0) (g .2) h q
+
+  pub bit-in : {m : ℕ} → getD (masksOf r) (i + 1) 0 ≡ m → bitWrong r d j ≡ not (allowed (getD d j 0) m)
+  bit-in e = bit-at r d j (i + 1) in-group e refl
+
+  pub free-in : getD (masksOf r) (i + 1) 0 ≡ 0xFFFFFFFF → getD d j 0 < 2 ^ 32 → bitWrong r d j ≡ false
+  free-in e l = free-at r d j (i + 1) in-group e l
+
+  pub value-in : valueWrong r d j ≡ ruleOf r d j (i + 1) (getD d j 0)
+  value-in = value-at r d j (i + 1) in-group

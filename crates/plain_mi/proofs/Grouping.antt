@@ -4,12 +4,20 @@ use Prim.Native.Nat.{ℕ, zero, suc, _+_, _-_, _*_, _/_, _%_, _≤_, _<_}
 use native.Mathlib.Nat.{lt-of-mul-lt-mul-right, mul-le-mul-right, mul-add-mod-self-right, mod-self, zero-mod, div-add-mod', add-zero}
 use native.Mathlib.Omega.{arith}
 use mathlib.Core.Path.{_≡_, refl, sym, ap, _∙_}
-use mathlib.Core.Bool.{Bool, true, false}
+use mathlib.Core.Bool.{Bool, true, false, cond, not}
+use mathlib.Core.List.{List}
 use mathlib.Core.Logic.{⊎-elim}
+use lib.Dec.{eqb}
+use borrow.Author.Tests.{not-true, not-false}
 use Rattle.rules.specs.declared.Reason.{Reason}
-use Rattle.rules.proofs.Searching.{either}
+use Rattle.rules.specs.declared.Reason.the-variants.{BitNotAllowed, ValueBroken, RangeOutside}
+use Rattle.rules.specs.declared.Windows.{Windows}
+use Rattle.rules.specs.Masks.{bitWrong}
+use Rattle.rules.specs.Values.{valueWrong}
+use Rattle.rules.specs.Addresses.{rangeWrong}
+use Rattle.rules.proofs.Searching.{either, never-both}
 use Rattle.rules.proofs.Unique.{above-zero}
-use Rattle.plain_mi.specs.Plain.{firstCoded, freeFrom}
+use Rattle.plain_mi.specs.Plain.{firstCoded, firstBy, freeFrom}
 use Rattle.plain_mi.proofs.Coding.{is-first, not-first, none-left}
 
 -- an answer about the n dwords from k on: what the first of them say, unless they pass
@@ -59,6 +67,17 @@ module _ (reason : Reason) (bad : ℕ → Bool) where
 
   pub first-in-order : InOrder 0 (firstCoded reason bad)
   first-in-order = record { of-none = none-left reason bad; behind = first-behind; ahead = first-ahead }
+
+-- the same by the check's number
+pub by-number : (w : Windows) (r : ℕ) (d : List ℕ) (number : ℕ) → InOrder 0 (firstBy w r d number)
+unfolding firstBy
+by-number w r d number = by (eqb number 10) (eqb number 12)
+  where
+    by : (a b : Bool) → InOrder 0 (λ k n. cond a (firstCoded BitNotAllowed (bitWrong r d) k n)
+        (cond b (firstCoded ValueBroken (valueWrong r d) k n) (firstCoded RangeOutside (rangeWrong w r d) k n)))
+    by true b = first-in-order BitNotAllowed (bitWrong r d)
+    by false true = first-in-order ValueBroken (valueWrong r d)
+    by false false = first-in-order RangeOutside (rangeWrong w r d)
 
 -- a yes or no
 module _ (bad : ℕ → Bool) where
@@ -130,26 +149,50 @@ pub record AtGroup {A : Type 0} (said : ℕ → ℕ → A) (size n k : ℕ) : Ty
 pub at-first : {A : Type 0} (said : ℕ → ℕ → A) (size n : ℕ) → 0 < n → AtGroup said size n 1
 at-first said size n h = record { from = omega arith; within = h; start = zero-mod size; rest = refl }
 
-module _ {A : Type 0} {said : ℕ → ℕ → A} {size n k : ℕ} (a : AtGroup said size n k) where
-  pub group-fits : (n - 1) % size ≡ 0 → k < n → k + size ≤ n
-  group-fits g l = whole-group size k n (a .from) (a .start) g l
+-- a whole group stands there
+pub record Turn {A : Type 0} (said : ℕ → ℕ → A) (size n k : ℕ) : Type 0 where
+  pub at : AtGroup said size n k
+  pub there : (1 ≤ k) × (k + size ≤ n) × ((k - 1) % size ≡ 0)
 
-  module _ {pass : A} (o : InOrder pass said) where
-    -- the group passes, or it does not, or there is none left
-    pub at-next : k + size ≤ n → said k size ≡ pass → AtGroup said size n (k + size)
-    at-next h e =
+pub turn-at : {A : Type 0} {said : ℕ → ℕ → A} {size n k : ℕ} → AtGroup said size n k → (n - 1) % size ≡ 0 → k < n → Turn said size n k
+turn-at {size = size} {n} {k} a g l = record { at = a; there = (a .from, whole-group size k n (a .from) (a .start) g l, a .start) }
+
+module _ {A : Type 0} {said : ℕ → ℕ → A} {size n k : ℕ} {pass : A} (o : InOrder pass said) where
+  -- the group passes, or it does not
+  module _ (t : Turn said size n k) {x : A} (e : x ≡ said k size) where
+    split : said 1 (n - 1) ≡ said k (size + (n - (k + size)))
+    split =
+        let fits = t .there .1 in
         let p : n - k ≡ size + (n - (k + size)) = omega arith in
-        record {
-          from = omega (arith, a .from);
-          within = h;
-          start = next-start size k (a .from) (a .start);
-          rest = a .rest ∙ ap (said k) p ∙ o .behind k size (n - (k + size)) e;
-        }
+        t .at .rest ∙ ap (said k) p
 
-    pub stops-at : k + size ≤ n → (said k size ≡ pass → ⊥) → said 1 (n - 1) ≡ said k size
-    stops-at h e =
-        let p : n - k ≡ size + (n - (k + size)) = omega arith in
-        a .rest ∙ ap (said k) p ∙ o .ahead k size (n - (k + size)) e
+    pub goes-on : x ≡ pass → AtGroup said size n (k + size)
+    goes-on z = record {
+      from = omega (arith, t .at .from);
+      within = t .there .1;
+      start = next-start size k (t .at .from) (t .at .start);
+      rest = split ∙ o .behind k size (n - (k + size)) (sym e ∙ z);
+    }
 
-    pub all-passed : n ≤ k → said 1 (n - 1) ≡ pass
-    all-passed h = let p : n - k ≡ 0 = omega arith in a .rest ∙ ap (said k) p ∙ o .of-none k
+    pub stops : (x ≡ pass → ⊥) → x ≡ said 1 (n - 1)
+    stops m = e ∙ sym (split ∙ o .ahead k size (n - (k + size)) (λ z. m (e ∙ z)))
+
+  -- or there is none left
+  pub all-passed : AtGroup said size n k → n ≤ k → pass ≡ said 1 (n - 1)
+  all-passed a h = let p : n - k ≡ 0 = omega arith in sym (a .rest ∙ ap (said k) p ∙ o .of-none k)
+
+-- a yes or no, where one group says no, or yes
+module _ {said : ℕ → ℕ → Bool} {size n k : ℕ} (o : InOrder true said) (t : Turn said size n k) where
+  pub fails-there : said k size ≡ false → false ≡ said 1 (n - 1)
+  fails-there e = stops o t (sym e) (λ z. never-both z refl)
+
+  pub clean-there : said k size ≡ true → AtGroup said size n (k + size)
+  clean-there e = goes-on o t (sym e) refl
+
+-- and one that the code asks negated
+module _ {said : ℕ → ℕ → Bool} {size n k : ℕ} (o : InOrder true said) (t : Turn said size n k) {x : Bool} (e : x ≡ said k size) where
+  pub yes-goes-on : not x ≡ false → AtGroup said size n (k + size)
+  yes-goes-on z = goes-on o t e (not-false x z)
+
+  pub no-stops : not x ≡ true → false ≡ said 1 (n - 1)
+  no-stops z = let no = not-true x z in sym no ∙ stops o t e (λ y. never-both y no)

@@ -20,8 +20,8 @@ use Rattle.rules.specs.Masks.{headerMask, masksOf, allowedOf, allowedAt, bitWro
 use Rattle.rules.specs.Values.{noRule, ruleOf, valueWrong}
 use Rattle.rules.specs.Addresses.{rangeWrong}
 use Rattle.rules.specs.Step.{nested}
-use Rattle.rules.proofs.Searching.{either}
-use Rattle.plain_mi.specs.Plain.{wrongOf, otherHeader}
+use Rattle.rules.proofs.Searching.{either, never-both}
+use Rattle.plain_mi.specs.Plain.{wrongOf, headOf, otherHeader}
 use Rattle.plain_mi.proofs.Lengths.{field-is, length-says, past-says, content-says}
 use Rattle.plain_mi.proofs.Content.{header-says}
 use Rattle.plain_mi.proofs.Tests.{tested, content, whole}
@@ -106,31 +106,34 @@ bit-says-first w r rest level right n long some h e =
     sym (header-says w r (take n rest) level (omega (arith, length-take-le n rest h)) bit)
     ∙ content-says w r rest level right long h
 
--- the header is not the table's: its field is wrong, or the command goes past the window, or it has a bit that is not allowed
-module _ (w : Windows) (r : ℕ) (rest : List ℕ) (level : Level) (f : ℕ)
-    (right : lengthRight r (getD rest 0 0) ≡ eqb (field (getD rest 0 0) 7 0) f)
-    (long : lengthOf r (getD rest 0 0) ≡ field (getD rest 0 0) 7 0 + 2)
-    (bit : getD rest 0 0 % 256 ≡ f → bitWrong r rest 0 ≡ true) where
-  past-or-bit : getD rest 0 0 % 256 ≡ f → cond (ltb (length rest) (f + 2)) 2304 2560 ≡ wrongOf w r rest level
-  past-or-bit e = by (ltb (length rest) (f + 2)) refl
-    where
-      known : lengthRight r (getD rest 0 0) ≡ true
-      known = right ∙ eq-eqb _ _ (field-is _ ∙ e)
+-- 8, 9 and 10 at the header of any row: what they say is what is wrong with the command, or they pass
+pub head-refuses : (w : Windows) (r : ℕ) (rest : List ℕ) (level : Level) (n : ℕ) (right past kept : Bool)
+    → lengthRight r (getD rest 0 0) ≡ right → (right ≡ true → lengthOf r (getD rest 0 0) ≡ n) → 0 < n → ltb (length rest) n ≡ past
+    → (right ≡ true → kept ≡ false → bitWrong r rest 0 ≡ true) → (headOf right past kept ≡ 0 → ⊥)
+    → headOf right past kept ≡ wrongOf w r rest level
+unfolding headOf
+head-refuses w r rest level n false past kept field long some ends bit z = length-says w r rest level field
+head-refuses w r rest level n true true kept field long some ends bit z = past-says w r rest level field (long refl) (ltb-true _ _ ends)
+head-refuses w r rest level n true false false field long some ends bit z =
+    bit-says-first w r rest level field n (long refl) some (ltb-false _ _ ends) (bit refl refl)
+head-refuses w r rest level n true false true field long some ends bit z = absurd (z refl)
 
-      counted : lengthOf r (getD rest 0 0) ≡ f + 2
-      counted = long ∙ ap (λ (n : ℕ). n + 2) (field-is _ ∙ e)
+pub head-passes : (right past kept : Bool) → headOf right past kept ≡ 0 → (right ≡ true) × (past ≡ false) × (kept ≡ true)
+unfolding headOf
+head-passes true false true e = (refl, refl, refl)
+head-passes true false false e = absurd (omega arith)
+head-passes true true kept e = absurd (omega arith)
+head-passes false past kept e = absurd (omega arith)
 
-      by : (b : Bool) → ltb (length rest) (f + 2) ≡ b → cond b 2304 2560 ≡ wrongOf w r rest level
-      by true t = past-says w r rest level known counted (ltb-true _ _ t)
-      by false t = bit-says-first w r rest level known (f + 2) counted (omega arith) (ltb-false _ _ t) (bit e)
-
-  pub other : otherHeader rest f ≡ wrongOf w r rest level
-  other = by (eqb (getD rest 0 0 % 256) f) refl
-    where
-      by : (b : Bool) → eqb (getD rest 0 0 % 256) f ≡ b
-          → cond b (cond (ltb (length rest) (f + 2)) 2304 2560) 2048 ≡ wrongOf w r rest level
-      by true t = past-or-bit (eqb-true _ _ t)
-      by false t = length-says w r rest level (right ∙ ap (λ (x : ℕ). eqb x f) (field-is _) ∙ t)
+-- the header is not the table's
+pub other : (w : Windows) (r : ℕ) (rest : List ℕ) (level : Level) (f : ℕ) → lengthRight r (getD rest 0 0) ≡ eqb (field (getD rest 0 0) 7 0) f
+    → lengthOf r (getD rest 0 0) ≡ field (getD rest 0 0) 7 0 + 2
+    → (getD rest 0 0 % 256 ≡ f → bitWrong r rest 0 ≡ true) → otherHeader rest f ≡ wrongOf w r rest level
+other w r rest level f right long bit =
+    head-refuses w r rest level (f + 2) (eqb (getD rest 0 0 % 256) f) (ltb (length rest) (f + 2)) false
+    (right ∙ ap (λ (x : ℕ). eqb x f) (field-is _)) (λ t. long ∙ ap (λ (n : ℕ). n + 2) (field-is _ ∙ eqb-true _ _ t)) (omega arith) refl
+    (λ t k. bit (eqb-true _ _ t))
+    (λ z. never-both (head-passes (eqb (getD rest 0 0 % 256) f) (ltb (length rest) (f + 2)) false z .2) refl)
 
 -- of a row with one length: no header between its key and its mask has its field, but the table's
 pub other-exact : (w : Windows) (r : ℕ) (rest : List ℕ) (level : Level) (f : ℕ) → r < rowCount → theRow r .total ≡ exactly f

@@ -1,18 +1,17 @@
 -- The length of a command, of any row: its field (8), whether it ends in the window (9), and what is left for its own dwords to say.
 -- Assumes nothing.
-use Prim.Native.Nat.{ℕ, zero, suc, _+_, _/_, _%_, _≤_, _<_}
+use Prim.Native.Nat.{ℕ, zero, suc, _+_, _%_, _≤_, _<_}
 use native.Mathlib.Omega.{arith}
 use native.Mathlib.Numerals.{add-one}
 use mathlib.Core.Path.{_≡_, refl, sym, ap, _∙_}
-use mathlib.Core.Bool.{Bool, true, false, _&&_}
+use mathlib.Core.Bool.{true, false}
 use mathlib.Core.List.{List, [], _∷_}
-use lib.Dec.{eqb, leb}
 use lib.ListN.{length, getD, take}
-use borrow.Author.Tests.{eqb-true, leb-true, eq-eqb, ne-eqb, le-leb, le-ltb, lt-ltb}
+use borrow.Author.Tests.{eq-eqb, ne-eqb, le-ltb, lt-ltb}
 use Rattle.rules.specs.declared.Level.{Level}
 use Rattle.rules.specs.declared.Windows.{Windows}
 use Rattle.rules.specs.Words.{field}
-use Rattle.rules.specs.Commands.{exactly, groups, theRow, groupSize, lengthOf, lengthRight}
+use Rattle.rules.specs.Commands.{exactly, theRow, lengthOf, lengthRight}
 use Rattle.rules.specs.Refusals.{numberOf}
 use Rattle.looks.specs.Looks.{contentOf}
 use Rattle.plain_mi.specs.Plain.{coded, wrongOf}
@@ -34,29 +33,6 @@ module _ (r f : ℕ) (t : theRow r .total ≡ exactly f) (x : ℕ) where
   pub exact-long : x % 256 ≡ f → lengthOf r x ≡ f + 2
   unfolding lengthOf
   exact-long e = rw (t, field-is x, e)
-
--- a row of groups: its field is right where it counts whole groups, at most as many as the row may have
-module _ (r size most : ℕ) (t : theRow r .total ≡ groups most) (g : groupSize r ≡ size) (x : ℕ) where
-  pub groups-wrong : ((x % 256 + 1) % size ≡ 0 → (x % 256 + 1) / size ≤ most → ⊥) → lengthRight r x ≡ false
-  unfolding lengthRight
-  groups-wrong n =
-      rw (t, g, field-is x)
-      (both-needed (eqb ((x % 256 + 1) % size) 0) (leb 1 ((x % 256 + 1) / size)) (leb ((x % 256 + 1) / size) most)
-      (λ p q. n (eqb-true _ _ p) (leb-true _ _ q)))
-    where
-      both-needed : (a b c : Bool) → (a ≡ true → c ≡ true → ⊥) → (a && (b && c)) ≡ false
-      both-needed false b c n = refl
-      both-needed true false c n = refl
-      both-needed true true false n = refl
-      both-needed true true true n = absurd (n refl refl)
-
-  pub groups-right : (x % 256 + 1) % size ≡ 0 → 1 ≤ (x % 256 + 1) / size → (x % 256 + 1) / size ≤ most → lengthRight r x ≡ true
-  unfolding lengthRight
-  groups-right a b c = rw (t, g, field-is x, eq-eqb _ _ a, le-leb _ _ b, le-leb _ _ c)
-
-  pub groups-long : lengthOf r x ≡ x % 256 + 2
-  unfolding lengthOf
-  groups-long = rw (t, field-is x)
 
 -- the n dwords from k on, one by one
 abbrev pub listed : List ℕ → ℕ → ℕ → List ℕ

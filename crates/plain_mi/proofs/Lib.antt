@@ -14,3 +14,4 @@ pub mod Stores
 pub mod Registers
 pub mod Grouping
 pub mod OfGroups
+pub mod Whole

@@ -1,20 +1,24 @@
--- Laws of a command of groups, for any row that has them: its field, its end, its header, and what is left for its groups to say.
+-- Laws of a command of groups, for any row that has them: its header refuses, or its field counts whole groups, which are left to say the rest.
 -- Assumes nothing.
-use Prim.Native.Nat.{ℕ, _+_, _-_, _*_, _/_, _%_, _≤_, _<_}
+use Prim.Native.Nat.{ℕ, _+_, _-_, _*_, _%_, _≤_, _<_}
 use native.Mathlib.Omega.{arith}
-use mathlib.Core.Path.{_≡_, ap, _∙_}
+use mathlib.Core.Path.{_≡_, refl, sym, ap, _∙_}
 use mathlib.Core.Bool.{true, false}
 use mathlib.Core.List.{List}
 use lib.ListN.{length, getD, take}
 use lib.Seq.{length-take-le, getD-take}
+use lib.Dec.{eqb, ltb}
+use borrow.Author.Tests.{eqb-true, eqb-false, ltb-false}
 use Rattle.rules.specs.declared.Level.{Level}
 use Rattle.rules.specs.declared.Windows.{Windows}
-use Rattle.rules.specs.Commands.{theRow, groups, groupSize, lengthOf, lengthRight, rowCount, rowOf}
+use Rattle.rules.specs.Words.{field}
+use Rattle.rules.specs.Commands.{theRow, groups, groupSize, fieldRight, lengthOf, lengthRight, rowCount, rowOf}
 use Rattle.rules.specs.Masks.{headerMask, bitWrong}
+use Rattle.rules.proofs.Searching.{and-left}
 use Rattle.looks.specs.Looks.{contentOf}
-use Rattle.plain_mi.specs.Plain.{coded, wrongOf, Groups}
-use Rattle.plain_mi.proofs.Lengths.{groups-wrong, groups-right, groups-long, length-says, past-says, content-says}
-use Rattle.plain_mi.proofs.Headers.{header-bits, not-between, key-and-field, bit-says-first}
+use Rattle.plain_mi.specs.Plain.{coded, wrongOf, groupsHeader, Groups}
+use Rattle.plain_mi.proofs.Lengths.{field-is, content-says}
+use Rattle.plain_mi.proofs.Headers.{header-bits, not-between, key-and-field, head-refuses, head-passes}
 
 -- a row of at most `most` groups of `size` dwords each, whose header is its key, 256 * m, and its field
 pub record GroupRow (r size most m : ℕ) : Type 0 where
@@ -24,48 +28,54 @@ pub record GroupRow (r size most m : ℕ) : Type 0 where
   pub mask : headerMask (theRow r) ≡ 256 * m + 0xFF
   pub known : r < rowCount
 
--- a field that counts whole groups, and not too many
-abbrev pub FieldRight : ℕ → ℕ → ℕ → Type 0
-FieldRight size most f = ((f + 1) % size ≡ 0) × (1 ≤ (f + 1) / size) × ((f + 1) / size ≤ most)
+-- the command's own n dwords are whole groups behind a header that is right, and they say what is wrong with it
+pub record OwnGroups (w : Windows) (r size : ℕ) (rest : List ℕ) (level : Level) (n : ℕ) : Type 0 where
+  pub long : n ≡ length (take n rest)
+  pub right : Groups size (take n rest) × (bitWrong r (take n rest) 0 ≡ false)
+  pub says : {x : ℕ} → x ≡ coded (contentOf w r (take n rest) 0 level) → x ≡ wrongOf w r rest level
 
-module _ {r size most m : ℕ} (g : GroupRow r size most m) (w : Windows) (rest : List ℕ) (level : Level)
-    (row : rowOf (getD rest 0 0) ≡ r) where
-  -- 8
-  pub says-length : ((getD rest 0 0 % 256 + 1) % size ≡ 0 → (getD rest 0 0 % 256 + 1) / size ≤ most → ⊥)
-      → 2048 ≡ wrongOf w r rest level
-  says-length n = length-says w r rest level (groups-wrong r size most (g .total) (g .of-size) (getD rest 0 0) n)
+module _ {r size most m : ℕ} (g : GroupRow r size most m) (w : Windows) (rest : List ℕ) (level : Level) {x : ℕ}
+    (e : x ≡ groupsHeader rest (256 * m) size most) where
+  right-is : lengthRight r (getD rest 0 0) ≡ fieldRight (groups most) size (getD rest 0 0)
+  unfolding lengthRight
+  right-is = rw (g .total, g .of-size)
 
-  module _ (f : FieldRight size most (getD rest 0 0 % 256)) where
-    right : lengthRight r (getD rest 0 0) ≡ true
-    right = groups-right r size most (g .total) (g .of-size) (getD rest 0 0) (f .0) (f .1) (f .2)
+  long : lengthOf r (getD rest 0 0) ≡ getD rest 0 0 % 256 + 2
+  unfolding lengthOf
+  long = rw (g .total, field-is (getD rest 0 0))
 
-    long : lengthOf r (getD rest 0 0) ≡ getD rest 0 0 % 256 + 2
-    long = groups-long r size most (g .total) (g .of-size) (getD rest 0 0)
+  pub groups-refuse : rowOf (getD rest 0 0) ≡ r → (x ≡ 0 → ⊥) → x ≡ wrongOf w r rest level
+  unfolding groupsHeader
+  groups-refuse row n =
+      e
+      ∙ head-refuses w r rest level (getD rest 0 0 % 256 + 2) (fieldRight (groups most) size (getD rest 0 0))
+      (ltb (length rest) (getD rest 0 0 % 256 + 2)) (eqb (getD rest 0 0 - getD rest 0 0 % 256) (256 * m)) right-is (λ t. long) (omega arith) refl
+      (λ t k. not-between r rest (g .known) row (λ b low high. eqb-false (getD rest 0 0 - getD rest 0 0 % 256) (256 * m) k (omega (arith, g .key, g .mask)))) (λ z. n (e ∙ z))
 
-    -- 9
-    pub says-past : length rest < getD rest 0 0 % 256 + 2 → 2304 ≡ wrongOf w r rest level
-    says-past h = past-says w r rest level right long h
+  module _ (z : x ≡ 0) where
+    field-right : fieldRight (groups most) size (getD rest 0 0) ≡ true
+    unfolding groupsHeader
+    field-right = head-passes _ _ _ (sym e ∙ z) .0
 
-    module _ (l : getD rest 0 0 % 256 + 2 ≤ length rest) where
-      pub own-length : length (take (getD rest 0 0 % 256 + 2) rest) ≡ getD rest 0 0 % 256 + 2
-      own-length = length-take-le (getD rest 0 0 % 256 + 2) rest l
+    own-fits : getD rest 0 0 % 256 + 2 ≤ length rest
+    unfolding groupsHeader
+    own-fits = ltb-false _ _ (head-passes _ _ _ (sym e ∙ z) .1)
 
-      -- what is left is said of the command's own dwords
-      pub says-content : coded (contentOf w r (take (getD rest 0 0 % 256 + 2) rest) 0 level) ≡ wrongOf w r rest level
-      says-content = content-says w r rest level right long l
+    key-is : getD rest 0 0 - getD rest 0 0 % 256 ≡ 256 * m
+    unfolding groupsHeader
+    key-is = eqb-true _ _ (head-passes _ _ _ (sym e ∙ z) .2)
 
-      pub own-groups : Groups size (take (getD rest 0 0 % 256 + 2) rest)
-      own-groups =
-          let p : length (take (getD rest 0 0 % 256 + 2) rest) - 1 ≡ getD rest 0 0 % 256 + 1 = omega (arith, own-length) in
-          (omega (arith, own-length), ap (λ (n : ℕ). n % size) p ∙ f .0)
-
-      -- 10 of the header: it is the key and the field, or it is not
-      pub header-kept : getD rest 0 0 - getD rest 0 0 % 256 ≡ 256 * m → bitWrong r (take (getD rest 0 0 % 256 + 2) rest) 0 ≡ false
-      header-kept e =
-          header-bits r _
-          ∙ rw (getD-take (getD rest 0 0 % 256 + 2) rest 0 0 (omega arith), g .mask, key-and-field (getD rest 0 0) m e)
-
-      pub says-header : (getD rest 0 0 - getD rest 0 0 % 256 ≡ 256 * m → ⊥) → 2560 ≡ wrongOf w r rest level
-      says-header n =
-          bit-says-first w r rest level right _ long (omega arith) l
-          (not-between r rest (g .known) row (λ b low high. n (omega (arith, g .key, g .mask))))
+    pub own-groups : {n : ℕ} → n ≡ field (getD rest 0 0) 7 0 + 2 → OwnGroups w r size rest level n
+    own-groups {n} l =
+        let counted : n ≡ getD rest 0 0 % 256 + 2 = l ∙ ap (λ (f : ℕ). f + 2) (field-is _) in
+        let fits : n ≤ length rest = omega (arith, own-fits) in
+        let dwords = length-take-le n rest fits in
+        let behind : length (take n rest) - 1 ≡ field (getD rest 0 0) 7 0 + 1 = omega (arith, dwords, l) in
+        record {
+          long = sym dwords;
+          right = (
+            (omega (arith, dwords), ap (λ (i : ℕ). i % size) behind ∙ eqb-true _ _ (and-left (eqb ((field (getD rest 0 0) 7 0 + 1) % size) 0) _ field-right)),
+            header-bits r _ ∙ rw (getD-take n rest 0 0 (omega arith), g .mask, key-and-field (getD rest 0 0) m key-is),
+          );
+          says = λ q. q ∙ content-says w r rest level (right-is ∙ field-right) (long ∙ sym counted) fits;
+        }

@@ -1,9 +1,9 @@
 -- Row 2: the start, test by test, once its field is right and it does not go past the window.
 -- Assumes nothing.
 use Prim.Native.Nat.{ℕ, _+_, _*_, _%_, _^_, _≤_, _<_}
-use mathlib.Core.Path.{_≡_, refl}
-use mathlib.Core.Bool.{cond, not}
-use mathlib.Core.List.{List}
+use mathlib.Core.Path.{_≡_, refl, sym}
+use mathlib.Core.Bool.{not}
+use mathlib.Core.List.{List, [], _∷_}
 use lib.ListN.{length, getD}
 use Rattle.rules.specs.declared.Windows.{Windows}
 use Rattle.rules.specs.declared.Within.the-variants.{BatchOnly}
@@ -17,8 +17,19 @@ use Rattle.rules.specs.Values.{valueRules, ruleOf, valueWrong}
 use Rattle.rules.specs.Addresses.{rangeWrong}
 use Rattle.rules.specs.Step.{nested}
 use Rattle.plain_mi.specs.Plain.{wrongOf}
-use Rattle.plain_mi.proofs.Tests.{tested, content, whole}
+use Rattle.plain_mi.proofs.Tests.{Test, answered, tested, content, whole}
 use Rattle.plain_mi.proofs.Lengths.{exact-wrong, exact-right, exact-long, exact-past, length-says}
+
+-- its tests
+abbrev pub start-tests : Windows → List ℕ → Level → List Test
+start-tests w d level =
+    (not (allowed (getD d 0 0) 0x18C001FF), 2560)
+    ∷ (not (allowed (getD d 1 0) 0xFFFFFFFC), 2561)
+    ∷ (not (allowed (getD d 2 0) 0x0000FFFF), 2562)
+    ∷ (nested startRow level, 2816)
+    ∷ (not (bit (getD d 0 0) 8), 3072)
+    ∷ (not (fits w BatchOnly (getD d 1 0 + 2 ^ 32 * getD d 2 0) 4), 3329)
+    ∷ []
 
 module _ (w : Windows) (rest : List ℕ) (level : Level) where
   pub start-field : (getD rest 0 0 % 256 ≡ 1 → ⊥) → 2048 ≡ wrongOf w startRow rest level
@@ -30,13 +41,7 @@ module _ (w : Windows) (rest : List ℕ) (level : Level) where
     unfolding rows theRow
     start-past h = exact-past startRow 1 refl w rest level e h
 
-    pub start-tested : 3 ≤ length rest → wrongOf w startRow rest level
-        ≡ cond (not (allowed (getD rest 0 0) 0x18C001FF)) 2560
-        (cond (not (allowed (getD rest 1 0) 0xFFFFFFFC)) 2561
-        (cond (not (allowed (getD rest 2 0) 0x0000FFFF)) 2562
-        (cond (nested startRow level) 2816
-        (cond (not (bit (getD rest 0 0) 8)) 3072
-        (cond (not (fits w BatchOnly (getD rest 1 0 + 2 ^ 32 * getD rest 2 0) 4)) 3329 0)))))
+    pub start-tested : 3 ≤ length rest → answered (start-tests w rest level) 0 ≡ wrongOf w startRow rest level
     unfolding rows theRow groupSize inGroup content tested bitWrong allowedAt allowedOf masksOf
         valueRules ruleOf valueWrong usesByRow accessOf accessAt rangeWrong addressAt
-    start-tested h = whole w startRow rest level (exact-right startRow 1 refl _ e) 3 (exact-long startRow 1 refl _ e) h
+    start-tested h = sym (whole w startRow rest level (exact-right startRow 1 refl _ e) 3 (exact-long startRow 1 refl _ e) h)

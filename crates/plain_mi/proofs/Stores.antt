@@ -4,8 +4,8 @@ use Prim.Native.Nat.{ℕ, _+_, _*_, _/_, _%_, _^_, _≤_, _<_}
 use native.Mathlib.Omega.{arith}
 use mathlib.Core.Path.{_≡_, refl, sym, ap, _∙_}
 use mathlib.Core.Bool.{Bool, true, false, cond, not}
-use mathlib.Core.List.{List}
-use lib.ListN.{getD}
+use mathlib.Core.List.{List, [], _∷_}
+use lib.ListN.{length, getD}
 use lib.Bits.{bitAnd, and-mod, and-le-r}
 use lib.Dec.{eqb, lit≤}
 use borrow.Author.Tests.{eqb-true, eqb-false, not-false}
@@ -22,7 +22,7 @@ use Rattle.rules.specs.Masks.{masksOf, allowedOf, allowedAt, bitWrong}
 use Rattle.rules.specs.Values.{valueRules, ruleOf, valueWrong}
 use Rattle.rules.specs.Addresses.{rangeWrong}
 use Rattle.plain_mi.specs.Plain.{firstCoded, wrongOf, otherHeader}
-use Rattle.plain_mi.proofs.Tests.{tested, content, searched-last, passed, stopped, Own}
+use Rattle.plain_mi.proofs.Tests.{Test, answered, tested, content, searched-last, passed, stopped, Own, own-answer}
 use Rattle.plain_mi.proofs.Headers.{header-bits, not-between, other}
 use Rattle.plain_mi.proofs.Dwords.{any-dword}
 
@@ -57,31 +57,43 @@ bits-of : (d : List ℕ) → firstCoded BitNotAllowed (bitWrong storeRow d) 1 2 
 unfolding numberOf
 bits-of d = searched-last BitNotAllowed (bitWrong storeRow d) 1 2
 
-pub store-bits : (d : List ℕ) → firstCoded BitNotAllowed (bitWrong storeRow d) 1 2
-    ≡ cond (not (allowed (getD d 1 0) 0xFFFFFFFC)) 2561 (cond (not (allowed (getD d 2 0) 0x0000FFFF)) 2562 0)
+pub store-bits : (d : List ℕ) → cond (not (allowed (getD d 1 0) 0xFFFFFFFC)) 2561 (cond (not (allowed (getD d 2 0) 0x0000FFFF)) 2562 0)
+    ≡ firstCoded BitNotAllowed (bitWrong storeRow d) 1 2
 unfolding tested bitWrong allowedAt allowedOf masksOf rows theRow groupSize inGroup
-store-bits d = bits-of d
+store-bits d = sym (bits-of d)
 
--- and what stands behind it: 10 decides, or it does
-module _ (d : List ℕ) {x : ℕ} (e : x ≡ firstCoded BitNotAllowed (bitWrong storeRow d) 1 2) (later : ℕ) where
-  pub bits-refuse : (x ≡ 0 → ⊥) → x ≡ tested 10 (bitWrong storeRow d) 1 2 later
-  bits-refuse n = e ∙ bits-of d ∙ stopped 10 (lit≤ tt) (bitWrong storeRow d) 1 2 (λ z. n (e ∙ bits-of d ∙ z)) (λ z. absurd (z refl))
+-- the two stores: what stands behind 10
+abbrev pub four-tests : Windows → List ℕ → List Test
+four-tests w d = (not (fits w ScratchOnly (getD d 1 0 + 2 ^ 32 * getD d 2 0) 4), 3329) ∷ []
 
-  pub bits-pass : x ≡ 0 → later ≡ tested 10 (bitWrong storeRow d) 1 2 later
-  bits-pass z = sym (passed 10 (lit≤ tt) (bitWrong storeRow d) 1 2 (sym (bits-of d) ∙ sym e ∙ z) .1)
+abbrev pub eight-tests : Windows → List ℕ → List Test
+eight-tests w d =
+    (not (eqb (getD d 1 0 % 8) 0), 3073) ∷ (not (fits w ScratchOnly (getD d 1 0 + 2 ^ 32 * getD d 2 0) 8), 3329) ∷ []
 
--- the two stores
+-- a store of n dwords, with this answer behind 10
+abbrev pub Store : Windows → List ℕ → ℕ → ℕ → Type 0
+Store w rest n later = Own w storeRow rest First n (tested 10 (bitWrong storeRow rest) 1 2 later)
+
 module _ (w : Windows) (rest : List ℕ) where
-  pub four-bytes : getD rest 0 0 ≡ 0x10000002 → getD rest 3 0 < 2 ^ 32
-      → Own w storeRow rest First 4 (tested 10 (bitWrong storeRow rest) 1 2
-      (cond (not (fits w ScratchOnly (getD rest 1 0 + 2 ^ 32 * getD rest 2 0) 4)) 3329 0))
+  pub four-bytes : getD rest 0 0 ≡ 0x10000002 → getD rest 3 0 < 2 ^ 32 → Store w rest 4 (answered (four-tests w rest) 0)
   unfolding content tested bitWrong allowed allowedAt allowedOf masksOf rows theRow groupSize inGroup
       valueRules ruleOf valueWrong lengthRight lengthOf usesByRow accessOf accessAt rangeWrong addressAt
   four-bytes e third = record { right = rw e; long = rw e; same = rw (e, any-dword _ third) }
 
-  pub eight-bytes : getD rest 0 0 ≡ 0x10200003 → getD rest 3 0 < 2 ^ 32 → getD rest 4 0 < 2 ^ 32
-      → Own w storeRow rest First 5 (tested 10 (bitWrong storeRow rest) 1 2 (cond (not (eqb (getD rest 1 0 % 8) 0)) 3073
-      (cond (not (fits w ScratchOnly (getD rest 1 0 + 2 ^ 32 * getD rest 2 0) 8)) 3329 0)))
+  pub eight-bytes : getD rest 0 0 ≡ 0x10200003 → getD rest 3 0 < 2 ^ 32 → getD rest 4 0 < 2 ^ 32 → Store w rest 5 (answered (eight-tests w rest) 0)
   unfolding content tested bitWrong allowed allowedAt allowedOf masksOf rows theRow groupSize inGroup
       valueRules ruleOf valueWrong lengthRight lengthOf usesByRow accessOf accessAt rangeWrong addressAt
   eight-bytes e third fourth = record { right = rw e; long = rw e; same = rw (e, any-dword _ third, any-dword _ fourth) }
+
+-- 10 decides, or what stands behind it does
+module _ {w : Windows} {rest : List ℕ} {n : ℕ} (later : ℕ) (own : Store w rest n later) (h : n ≤ length rest) {x : ℕ}
+    (e : x ≡ firstCoded BitNotAllowed (bitWrong storeRow rest) 1 2) where
+  pub bits-refuse : (x ≡ 0 → ⊥) → x ≡ wrongOf w storeRow rest First
+  bits-refuse m =
+      e
+      ∙ bits-of rest
+      ∙ stopped 10 (lit≤ tt) (bitWrong storeRow rest) 1 2 (λ z. m (e ∙ bits-of rest ∙ z)) (λ z. absurd (z refl))
+      ∙ own-answer own h
+
+  pub bits-pass : x ≡ 0 → later ≡ wrongOf w storeRow rest First
+  bits-pass z = sym (passed 10 (lit≤ tt) (bitWrong storeRow rest) 1 2 (sym (bits-of rest) ∙ sym e ∙ z) .1) ∙ own-answer own h

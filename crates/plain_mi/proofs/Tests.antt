@@ -3,8 +3,8 @@
 use Prim.Native.Nat.{ℕ, zero, suc, _+_, _*_, _≤_, _<_}
 use native.Mathlib.Omega.{arith}
 use mathlib.Core.Path.{_≡_, refl, sym, ap, _∙_}
-use mathlib.Core.Bool.{Bool, true, false, cond, not}
-use mathlib.Core.List.{List}
+use mathlib.Core.Bool.{Bool, true, false, cond, not, _||_}
+use mathlib.Core.List.{List, [], _∷_}
 use lib.ListN.{length, getD}
 use Rattle.rules.specs.declared.Windows.{Windows}
 use Rattle.rules.specs.declared.Level.{Level}
@@ -22,7 +22,7 @@ use Rattle.rules.specs.Values.{valueWrong}
 use Rattle.rules.specs.Addresses.{rangeWrong}
 use Rattle.rules.specs.Step.{nested}
 use Rattle.looks.specs.Looks.{orElse, contentOf}
-use Rattle.plain_mi.specs.Plain.{coded, wrongOf}
+use Rattle.plain_mi.specs.Plain.{coded, firstCoded, wrongOf}
 use Rattle.plain_mi.proofs.Coding.{alone}
 use Rattle.plain_mi.proofs.Lengths.{listed, as-many, past-says, listed-says}
 
@@ -55,6 +55,35 @@ pub searched-last : (reason : Reason) (bad : ℕ → Bool) (k n : ℕ)
     → coded (refuseFound reason batchWindow 0 (firstFrom bad k n)) ≡ tested (numberOf reason) bad k n 0
 unfolding coded
 searched-last reason bad k n = alone (refuseFound reason batchWindow 0 (firstFrom bad k n)) ∙ searched reason bad k n Pass
+
+-- tests in a list, each with its answer: that of the first that holds, and else the answer behind them
+abbrev pub Test : Type 0
+Test = Bool × ℕ
+
+abbrev pub answered : List Test → ℕ → ℕ
+answered [] later = later
+answered (t ∷ ts) later = cond (t .0) (t .1) (answered ts later)
+
+-- the dwords of a group, each with what the test says of it
+module _ (reason : Reason) (bad : ℕ → Bool) (k : ℕ) {a b : Bool} (first : bad k ≡ a) (second : bad (k + 1) ≡ b) where
+  pub in-two : answered ((a, 256 * numberOf reason + k) ∷ (b, 256 * numberOf reason + (k + 1)) ∷ []) 0 ≡ firstCoded reason bad k 2
+  unfolding tested
+  in-two = sym (searched-last reason bad k 2 ∙ rw (first, second))
+
+  pub in-four : {e f : Bool} → bad (k + 2) ≡ e → bad (k + 3) ≡ f
+      → answered ((a, 256 * numberOf reason + k) ∷ (b, 256 * numberOf reason + (k + 1)) ∷ (e, 256 * numberOf reason + (k + 2))
+      ∷ (f, 256 * numberOf reason + (k + 3)) ∷ []) 0
+      ≡ firstCoded reason bad k 4
+  unfolding tested
+  in-four third fourth =
+      let p : k + 1 + 1 ≡ k + 2 = omega arith in
+      let q : k + 2 + 1 ≡ k + 3 = omega arith in
+      sym (searched-last reason bad k 4 ∙ rw (first, second, p, third, q, fourth))
+
+-- two tests with one answer
+pub one-by-one : (a b : Bool) (n later : ℕ) → cond a n (cond b n later) ≡ cond (a || b) n later
+one-by-one true b n later = refl
+one-by-one false b n later = refl
 
 -- 10 to 13 of n dwords, in turn
 unfoldable pub content : Windows → ℕ → List ℕ → Level → ℕ → ℕ
@@ -97,9 +126,12 @@ module _ {w : Windows} {r : ℕ} {rest : List ℕ} {level : Level} {n answer : �
 pub asked : {result test taken : Bool} → result ≡ test → not result ≡ taken → not test ≡ taken
 asked e f = ap not (sym e) ∙ f
 
--- one test with its answer, where it is known how it goes
-pub answers : (n later : ℕ) {test taken : Bool} → test ≡ taken → cond taken n later ≡ cond test n later
-answers n later e = ap (λ (t : Bool). cond t n later) (sym e)
+-- the first of them holds, or the others decide
+pub refuses : (n later : ℕ) {test : Bool} {answer : ℕ} → test ≡ true → cond test n later ≡ answer → n ≡ answer
+refuses n later e f = ap (λ (t : Bool). cond t n later) (sym e) ∙ f
+
+pub passes : (n later : ℕ) {test : Bool} {answer : ℕ} → test ≡ false → cond test n later ≡ answer → later ≡ answer
+passes n later e f = ap (λ (t : Bool). cond t n later) (sym e) ∙ f
 
 -- tests behind which one answer stands, and then another: all pass, or one of them stops at the same number
 module _ (number : ℕ) (some : 0 < number) (bad : ℕ → Bool) where

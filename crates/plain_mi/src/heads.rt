@@ -1,4 +1,4 @@
-// What rows share: the length by the field, the header that is not the table's, a range of so many bytes.
+// What rows share: the length by the field, what can be wrong with a header, a range of so many bytes.
 ghost use mathlib.Core.Path.{_≡_};
 ghost use mathlib.Core.Bool.{not};
 ghost use Prim.Native.Nat.{_+_, _*_, _^_, _<_};
@@ -6,9 +6,10 @@ ghost use lib.ListN.{length};
 ghost use Rattle.rules.specs.Words.{field};
 ghost use Rattle.rules.specs.Uses.{sized};
 ghost use Rattle.rules.specs.Addresses.{accessWrong};
-ghost use Rattle.plain_mi.specs.Plain.{otherHeader};
+ghost use Rattle.plain_mi.specs.Plain.{otherHeader, wholeHeader, groupsHeader};
 use crate::numbers::BIT;
 use crate::numbers::LENGTH;
+use crate::numbers::NOTHING;
 use crate::numbers::PAST;
 use crate::numbers::at;
 use rules::Windows;
@@ -22,8 +23,8 @@ pub fn length_by_field(header: u32) -> usize
     (header % 256) as usize + 2
 }
 
-// What is wrong with a command whose header is not the table's, by the field that its row wants: the field (8), or it goes past the window
-// (9), or a bit of its header (10).
+// 8, 9 or 10 of a command whose header is not the table's, by the field that its row wants: the field is wrong, or the command goes past the
+// window, or a bit of its header is not allowed.
 pub fn other_header(rest: &[u32], field: u32) -> usize
     requires { ⌜ (0 < length (now rest)) × («field» < 256) ⌝ }
     ensures { λ r. ⌜ r ≡ otherHeader (now (rest .entry)) «field» ⌝ }
@@ -35,6 +36,42 @@ pub fn other_header(rest: &[u32], field: u32) -> usize
         return at(PAST, 0);
     }
     at(BIT, 0)
+}
+
+// 8, 9, and 10 at the header, of a row with one length whose header has no free bits.
+pub fn whole_header(rest: &[u32], header: u32) -> usize
+    requires { ⌜ 0 < length (now rest) ⌝ }
+    ensures { λ r. ⌜ r ≡ wholeHeader (now (rest .entry)) header ⌝ }
+{
+    if rest[0] != header {
+        return other_header(rest, header % 256);
+    }
+    if rest.len() < length_by_field(header) {
+        return at(PAST, 0);
+    }
+    NOTHING
+}
+
+// 8, 9, and 10 at the header, of a row of groups: "field 2n-1, n 1..64" with groups of 2 dwords, 64 at most.
+pub fn groups_header(rest: &[u32], key: u32, size: u32, most: u32) -> usize
+    requires { ⌜ (0 < length (now rest)) × (0 < size) ⌝ }
+    ensures { λ r. ⌜ r ≡ groupsHeader (now (rest .entry)) key size most ⌝ }
+{
+    let header = rest[0];
+    let field = header % 256;
+    if (field + 1) % size != 0 {
+        return at(LENGTH, 0);
+    }
+    if most < (field + 1) / size {
+        return at(LENGTH, 0);
+    }
+    if rest.len() < length_by_field(header) {
+        return at(PAST, 0);
+    }
+    if header - field != key {
+        return at(BIT, 0);
+    }
+    NOTHING
 }
 
 // "size not 0: the range in one window".

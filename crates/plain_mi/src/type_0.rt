@@ -2,7 +2,7 @@
 ghost use mathlib.Core.Path.{_≡_};
 ghost use mathlib.Core.Bool.{cond, false};
 ghost use mathlib.Core.List.{[], _∷_};
-ghost use Prim.Native.Nat.{_≤_, _<_, _-_};
+ghost use Prim.Native.Nat.{_%_, _≤_, _<_, _-_};
 ghost use lib.ListN.{length, getD};
 ghost use Rattle.rules.specs.declared.Level.the-variants.{First};
 ghost use Rattle.rules.specs.declared.Reason.the-variants.{BitNotAllowed, ValueBroken};
@@ -10,10 +10,13 @@ ghost use Rattle.rules.specs.Words.{bit};
 ghost use Rattle.rules.specs.Commands.{noopRow, endRow, startRow, storeRow, storeRegisterRow, loadRegisterRow, rowOf, setRegistersRow};
 ghost use Rattle.rules.specs.Masks.{bitWrong};
 ghost use Rattle.rules.specs.Step.{nested};
-ghost use Rattle.plain_mi.specs.Plain.{firstCoded, wrongOf, bareOf, registerOf, coded, noWindows, cleanFrom, Groups, GroupAt};
+ghost use Rattle.plain_mi.specs.Plain.{firstCoded, firstBy, wrongOf, bareOf, registerOf, coded, noWindows, cleanFrom, Groups, GroupAt};
 ghost use Rattle.rules.specs.Values.{valueWrong};
 ghost use Rattle.looks.specs.Looks.{contentOf};
+use crate::heads::groups_header;
+use crate::heads::length_by_field;
 use crate::heads::other_header;
+use crate::heads::whole_header;
 use crate::numbers::BIT;
 use crate::numbers::LENGTH;
 use crate::numbers::NESTED;
@@ -106,24 +109,12 @@ pub fn set_registers(rest: &[u32]) -> usize
     requires { ⌜ (0 < length (now rest)) × (rowOf (getD (now rest) 0 0) ≡ setRegistersRow) ⌝ }
     ensures { λ r. ⌜ r ≡ bareOf setRegistersRow (now (rest .entry)) ⌝ }
 {
-    let header = rest[0];
-    let field = header % 256;
-    // 8: "field 2n-1, n 1..64"
-    if field % 2 != 1 {
-        return at(LENGTH, 0);
+    // 8, 9, 10: "11000000h, field 2n-1, n 1..64"
+    let head = groups_header(rest, 0x1100_0000, 2, 64);
+    if head != NOTHING {
+        return head;
     }
-    if 127 < field {
-        return at(LENGTH, 0);
-    }
-    // 9
-    let length = field as usize + 2;
-    if rest.len() < length {
-        return at(PAST, 0);
-    }
-    // 10: "11000000h"
-    if header - field != 0x1100_0000 {
-        return at(BIT, 0);
-    }
+    let length = length_by_field(rest[0]);
     pairs(&rest[..length])
 }
 
@@ -149,32 +140,30 @@ fn pair_value(d: &[u32], k: usize) -> usize
     NOTHING
 }
 
-// The first 10 of all pairs.
-fn pair_bits(d: &[u32]) -> usize
-    requires { ⌜ Groups 2 (now d) ⌝ }
-    ensures { λ r. ⌜ r ≡ firstCoded BitNotAllowed (bitWrong setRegistersRow (now (d .entry))) 1 (length (now (d .entry)) - 1) ⌝ }
+// What the check of this number says of the pair at k; 13 has nothing to say, since a pair has no address.
+fn pair_wrong(number: usize, d: &[u32], k: usize) -> usize
+    requires { ⌜ GroupAt 2 (now d) k ⌝ }
+    ensures { λ r. ⌜ r ≡ firstBy noWindows setRegistersRow (now (d .entry)) number k 2 ⌝ }
 {
-    let mut k = 1;
-    while k < d.len() {
-        let bit = pair_bit(d, k);
-        if bit != NOTHING {
-            return bit;
-        }
-        k += 2;
+    if number == BIT {
+        return pair_bit(d, k);
+    }
+    if number == VALUE {
+        return pair_value(d, k);
     }
     NOTHING
 }
 
-// The first 12 of all pairs.
-fn pair_values(d: &[u32]) -> usize
+// The first that the check of this number finds in all pairs.
+fn first_of_pairs(number: usize, d: &[u32]) -> usize
     requires { ⌜ Groups 2 (now d) ⌝ }
-    ensures { λ r. ⌜ r ≡ firstCoded ValueBroken (valueWrong setRegistersRow (now (d .entry))) 1 (length (now (d .entry)) - 1) ⌝ }
+    ensures { λ r. ⌜ r ≡ firstBy noWindows setRegistersRow (now (d .entry)) number 1 (length (now (d .entry)) - 1) ⌝ }
 {
     let mut k = 1;
     while k < d.len() {
-        let value = pair_value(d, k);
-        if value != NOTHING {
-            return value;
+        let wrong = pair_wrong(number, d, k);
+        if wrong != NOTHING {
+            return wrong;
         }
         k += 2;
     }
@@ -207,11 +196,11 @@ fn pairs(d: &[u32]) -> usize
     if pairs_good(d) {
         return NOTHING;
     }
-    let bit = pair_bits(d);
+    let bit = first_of_pairs(BIT, d);
     if bit != NOTHING {
         return bit;
     }
-    pair_values(d)
+    first_of_pairs(VALUE, d)
 }
 
 // The field of a store: "bit 21 and field 3 go together, as do clear and 2 (else 8)".
@@ -293,14 +282,8 @@ pub fn store_register(w: Windows, rest: &[u32]) -> usize
     requires { ⌜ (0 < length (now rest)) × (rowOf (getD (now rest) 0 0) ≡ storeRegisterRow) ⌝ }
     ensures { λ r. ⌜ r ≡ wrongOf w storeRegisterRow (now (rest .entry)) First ⌝ }
 {
-    // 8, 9, 10: "12000002h"
-    if rest[0] != 0x1200_0002 {
-        return other_header(rest, 2);
-    }
-    if rest.len() < 4 {
-        return at(PAST, 0);
-    }
-    let wrong = register_and_address(rest);
+    // 8, 9, 10, 12: "12000002h"
+    let wrong = register_and_address(rest, 0x1200_0002);
     if wrong != NOTHING {
         return wrong;
     }
@@ -316,14 +299,8 @@ pub fn load_register(w: Windows, rest: &[u32]) -> usize
     requires { ⌜ (0 < length (now rest)) × (rowOf (getD (now rest) 0 0) ≡ loadRegisterRow) ⌝ }
     ensures { λ r. ⌜ r ≡ wrongOf w loadRegisterRow (now (rest .entry)) First ⌝ }
 {
-    // 8, 9, 10: "14800002h"
-    if rest[0] != 0x1480_0002 {
-        return other_header(rest, 2);
-    }
-    if rest.len() < 4 {
-        return at(PAST, 0);
-    }
-    let wrong = register_and_address(rest);
+    // 8, 9, 10, 12: "14800002h"
+    let wrong = register_and_address(rest, 0x1480_0002);
     if wrong != NOTHING {
         return wrong;
     }
@@ -334,11 +311,16 @@ pub fn load_register(w: Windows, rest: &[u32]) -> usize
     NOTHING
 }
 
-// 10 and 12 of rows 5 and 6, "as row 5".
-fn register_and_address(rest: &[u32]) -> usize
-    requires { ⌜ 4 ≤ length (now rest) ⌝ }
-    ensures { λ r. ⌜ r ≡ registerOf (now (rest .entry)) ⌝ }
+// What rows 5 and 6 share: all but where the address may lie, "as row 5".
+fn register_and_address(rest: &[u32], header: u32) -> usize
+    requires { ⌜ (0 < length (now rest)) × (header % 256 ≡ 2) ⌝ }
+    ensures { λ r. ⌜ r ≡ registerOf (now (rest .entry)) header ⌝ }
 {
+    // 8, 9, 10
+    let head = whole_header(rest, header);
+    if head != NOTHING {
+        return head;
+    }
     // 10: "007FFFFCh, address FFFFFFFCh"
     if !allowed(rest[1], 0x007F_FFFC) {
         return at(BIT, 1);

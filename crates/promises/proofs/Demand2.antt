@@ -47,7 +47,8 @@ module _ {base : Base} {c : Capture} {old : List ℕ} where
     unfolding answerWith windowFault
     refuses n = by (endOf (walkOf base c old)) refl
       where
-        windows : {f : Fault} → (windowFault (lengthsOf c) ≡ Fails f) × (commandsOf (walkOf base c old) ≡ []) → FirstFault windowChecks (lengthsOf c) f × (commandsOf (walkOf base c old) ≡ [])
+        windows : {f : Fault} → (windowFault (lengthsOf c) ≡ Fails f) × (commandsOf (walkOf base c old) ≡ [])
+            → FirstFault windowChecks (lengthsOf c) f × (commandsOf (walkOf base c old) ≡ [])
         windows q = (first-fault (lengthsOf c) windowChecks _ (q .0), q .1)
 
         by : (v : Verdict) → endOf (walkOf base c old) ≡ v → Refusal base c (roomOf (length old)) r (commandsOf (walkOf base c old))

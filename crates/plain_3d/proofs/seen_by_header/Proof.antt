@@ -89,7 +89,9 @@ sees-store c =
     let k = c .before .before .before .before in
     let s = k .before .before .before in
     sees-within _ (now (s .args .batch)) (s .args .at) (s .args .level) 4 (lit< tt) (row-is s (k .match .keys5) (lit< tt) refl) _ (c .found5 .ensures)
-    (λ q. c .before .before .before .length-by-field2 .ensures) (c .before .store .ensures ∙ sym (any-level _ 4 _ (s .args .level) (never-nested 4 (s .args .level) (λ e. omega arith)))) (c .before .before .from3 .ensures)
+    (λ q. c .before .before .before .length-by-field2 .ensures)
+    (c .before .store .ensures ∙ sym (any-level _ 4 _ (s .args .level) (never-nested 4 (s .args .level) (λ e. omega arith))))
+    (c .before .before .from3 .ensures)
 
 sees-store-register : tie.Need-returns-6
 unfolding rows theRow rowFrom lengthOf usesByRow accessOf valueRules ruleOf

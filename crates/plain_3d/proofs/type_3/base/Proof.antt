@@ -1,97 +1,91 @@
--- `plain_3d::type_3::base` meets its contract: the ways out in the order of the refusals.
+-- `plain_3d::type_3::base` meets its contract: the header, and then four dwords after the other four.
 -- Assumes nothing.
+use Prim.Native.Nat.{ℕ, _-_, _≤_}
 use native.Mathlib.Omega.{arith}
 use mathlib.Core.Path.{_≡_, refl, _∙_}
-use lib.Dec.{lit≤}
+use mathlib.Core.List.{List}
+use lib.ListN.{length}
 use borrow.Author.Needs.{needs}
 use Rattle.rules.specs.declared.Level.the-variants.{First}
 use Rattle.rules.specs.declared.Reason.the-variants.{BitNotAllowed}
 use Rattle.rules.specs.Words.{allowed, inGroup, firstFrom}
-use Rattle.rules.specs.Commands.{baseRow, exactly, rows, theRow, groupSize}
+use Rattle.rules.specs.Commands.{baseRow, rows, theRow, groupSize}
 use Rattle.rules.specs.Uses.{usesByRow, accessOf}
 use Rattle.rules.specs.Masks.{masksOf, allowedOf, allowedAt, bitWrong}
 use Rattle.rules.specs.Values.{valueRules, ruleOf}
+use Rattle.plain_mi.specs.Plain.{noWindows, bareOf, firstCoded}
+use Rattle.plain_mi.proofs.Lengths.{listed}
+use Rattle.plain_mi.proofs.Grouping.{InOrder, first-in-order, former-says, latter-says}
+use Rattle.plain_mi.proofs.Whole.{whole-refuses, head-is, head-fits}
 use Rattle.plain_3d.specs.Stray.{strayFrom}
-use Rattle.plain_mi.proofs.Headers.{other-exact}
-use Rattle.plain_mi.proofs.Lengths.{listed, exact-past}
-use Rattle.plain_mi.proofs.Grouping.{first-in-order, former-says, latter-says}
+use Rattle.plain_3d.proofs.Rows.{base-row}
 use Rattle.plain_3d.proofs.BitsOnly.{bits-say}
 use Rattle.plain_3d.proofs.type_3.base.Statement.{statement}
 use Rattle.plain_3d.proofs.type_3.base.Tie as tie
 
-row : theRow baseRow .total ≡ exactly 14
-unfolding rows theRow
-row = refl
+abbrev rest : tie.Else1 → List ℕ
+rest c = c .before .before .before .args .rest .now
 
-other-header : tie.Need-returns
-unfolding rows theRow
-other-header c =
-    let start = c .before .before .before .before in
-    c .other-header .ensures ∙ other-exact _ baseRow _ First 14 (lit≤ tt) row (start .pre .1) (λ e low high. c .before .if1 .taken (omega arith))
+fits : (c : tie.Else1) → 16 ≤ length (rest c)
+fits c = head-fits _ _ (c .before .whole-header .ensures) (c .if1 .left)
 
-past : tie.Need-returns-2
-past c = c .at .ensures ∙ exact-past baseRow 14 row _ _ _ (omega arith) (c .before .if2 .taken)
+-- 10 of the dwords from k on
+abbrev bits : tie.Else1 → ℕ → ℕ → ℕ
+bits c = firstCoded BitNotAllowed (bitWrong baseRow (listed (rest c) 0 16))
 
-first : tie.Need-returns-3
+order : (c : tie.Else1) → InOrder 0 (bits c)
+order c = first-in-order BitNotAllowed (bitWrong baseRow (listed (rest c) 0 16))
+
+-- they decide
+abbrev Left : tie.Else1 → ℕ → Type 0
+Left c k = bits c k (16 - k) ≡ bareOf baseRow (rest c)
+
+all-left : (c : tie.Else1) → Left c 0
+unfolding rows theRow valueRules ruleOf usesByRow accessOf
+all-left c =
+    bits-say baseRow 14 refl refl refl noWindows (rest c)
+    (omega (arith, head-is _ _ (c .before .whole-header .ensures) (c .if1 .left))) (fits c) refl
+
+first-four : (c : tie.After-four-bits) → c .four-bits .result ≡ bits (c .before) 0 4
 unfolding strayFrom firstFrom bitWrong allowedAt allowedOf masksOf inGroup rows theRow groupSize allowed
-    valueRules ruleOf usesByRow accessOf
-first c =
-    let called = c .before in
-    let whole = called .before in
-    let header = whole .before .if1 .left in
-    let order = first-in-order BitNotAllowed (bitWrong baseRow (listed (whole .before .before .before .before .args .rest .now) 0 16)) in
-    bits-say baseRow 14 row refl refl _ _ (omega arith) (whole .if2 .left)
-    (former-says order 0 4 12 (rw header (rw header at (called .four-bits .ensures))) (c .if3 .taken))
+first-four c =
+    let header = head-is _ _ (c .before .before .whole-header .ensures) (c .before .if1 .left) in
+    rw header (rw header at (c .four-bits .ensures))
 
-second : tie.Need-returns-4
-unfolding strayFrom firstFrom bitWrong allowedAt allowedOf masksOf inGroup rows theRow groupSize allowed
-    valueRules ruleOf usesByRow accessOf
-second c =
-    let called = c .before in
-    let first-four = called .before in
-    let whole = first-four .before .before in
-    let header = whole .before .if1 .left in
-    let order = first-in-order BitNotAllowed (bitWrong baseRow (listed (whole .before .before .before .before .args .rest .now) 0 16)) in
-    bits-say baseRow 14 row refl refl _ _ (omega arith) (whole .if2 .left)
-    (latter-says order 0 4 12 (rw header (rw header at (first-four .before .four-bits .ensures))) (first-four .if3 .left)
-    (former-says order 4 4 8 (called .four-bits2 .ensures) (c .if4 .taken)))
+second-four : (c : tie.After-four-bits2) → c .four-bits2 .result ≡ bits (c .before .before .before) 4 4
+unfolding strayFrom firstFrom bitWrong allowedAt allowedOf masksOf inGroup rows theRow groupSize
+second-four c = c .four-bits2 .ensures
 
-third : tie.Need-returns-5
-unfolding strayFrom firstFrom bitWrong allowedAt allowedOf masksOf inGroup rows theRow groupSize allowed
-    valueRules ruleOf usesByRow accessOf
-third c =
-    let called = c .before in
-    let second-four = called .before in
-    let first-four = second-four .before .before in
-    let whole = first-four .before .before in
-    let header = whole .before .if1 .left in
-    let order = first-in-order BitNotAllowed (bitWrong baseRow (listed (whole .before .before .before .before .args .rest .now) 0 16)) in
-    bits-say baseRow 14 row refl refl _ _ (omega arith) (whole .if2 .left)
-    (latter-says order 0 4 12 (rw header (rw header at (first-four .before .four-bits .ensures))) (first-four .if3 .left)
-    (latter-says order 4 4 8 (second-four .before .four-bits2 .ensures) (second-four .if4 .left)
-    (former-says order 8 4 4 (called .four-bits3 .ensures) (c .if5 .taken))))
+third-four : (c : tie.After-four-bits3) → c .four-bits3 .result ≡ bits (c .before .before .before .before .before) 8 4
+unfolding strayFrom firstFrom bitWrong allowedAt allowedOf masksOf inGroup rows theRow groupSize
+third-four c = c .four-bits3 .ensures
 
-fourth : tie.Need-returns-6
-unfolding strayFrom firstFrom bitWrong allowedAt allowedOf masksOf inGroup rows theRow groupSize allowed
-    valueRules ruleOf usesByRow accessOf
-fourth c =
-    let third-four = c .before in
-    let second-four = third-four .before .before in
-    let first-four = second-four .before .before in
-    let whole = first-four .before .before in
-    let header = whole .before .if1 .left in
-    let order = first-in-order BitNotAllowed (bitWrong baseRow (listed (whole .before .before .before .before .args .rest .now) 0 16)) in
-    bits-say baseRow 14 row refl refl _ _ (omega arith) (whole .if2 .left)
-    (latter-says order 0 4 12 (rw header (rw header at (first-four .before .four-bits .ensures))) (first-four .if3 .left)
-    (latter-says order 4 4 8 (second-four .before .four-bits2 .ensures) (second-four .if4 .left)
-    (latter-says order 8 4 4 (third-four .before .four-bits3 .ensures) (third-four .if5 .left) (c .four-bits4 .ensures))))
+last-four : (c : tie.After-four-bits4) → c .four-bits4 .result ≡ bits (c .before .before .before .before .before .before .before) 12 4
+unfolding strayFrom firstFrom bitWrong allowedAt allowedOf masksOf inGroup rows theRow groupSize
+last-four c = c .four-bits4 .ensures
+
+behind-4 : (c : tie.Else2) → Left (c .before .before) 4
+behind-4 c = let head = c .before .before in latter-says (order head) 0 4 12 (first-four (c .before)) (c .if2 .left) refl ∙ all-left head
+
+behind-8 : (c : tie.Else3) → Left (c .before .before .before .before) 8
+behind-8 c =
+    let head = c .before .before .before .before in
+    latter-says (order head) 4 4 8 (second-four (c .before)) (c .if3 .left) refl ∙ behind-4 (c .before .before)
+
+behind-12 : (c : tie.Else4) → Left (c .before .before .before .before .before .before) 12
+behind-12 c =
+    let head = c .before .before .before .before .before .before in
+    latter-says (order head) 8 4 4 (third-four (c .before)) (c .if4 .left) refl ∙ behind-8 (c .before .before)
 
 pub base-spec : {M : Type 1} → statement M
 base-spec =
     tie.close
-    (tie.spec (λ c. search needs) (λ c κs. search needs) other-header
-    (λ c κs. search needs) past
-    (λ c κs. search needs) first
-    (λ c κs. search needs) second
-    (λ c κs. search needs) third
-    (λ c κs. search needs) fourth)
+    (tie.spec (λ c κs. search needs)
+    (λ c. whole-refuses base-row noWindows _ First (c .before .whole-header .ensures) (c .before .before .before .pre .1) (c .if1 .taken))
+    (λ c κs. omega (arith, fits c))
+    (λ c. former-says (order (c .before .before)) 0 4 12 (first-four (c .before)) (c .if2 .taken) ∙ all-left (c .before .before))
+    (λ c κs. omega (arith, fits (c .before .before)))
+    (λ c. former-says (order (c .before .before .before .before)) 4 4 8 (second-four (c .before)) (c .if3 .taken) ∙ behind-4 (c .before .before))
+    (λ c κs. omega (arith, fits (c .before .before .before .before)))
+    (λ c. former-says (order (c .before .before .before .before .before .before)) 8 4 4 (third-four (c .before)) (c .if4 .taken) ∙ behind-8 (c .before .before))
+    (λ c κs. omega (arith, fits (c .before .before .before .before .before .before))) (λ c. last-four c ∙ behind-12 (c .before)))

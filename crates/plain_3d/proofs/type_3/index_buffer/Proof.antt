@@ -1,141 +1,58 @@
--- `plain_3d::type_3::index_buffer` meets its contract: the ways out in the order of the refusals.
+-- `plain_3d::type_3::index_buffer` meets its contract: the header, and then one test after the other.
 -- Assumes nothing.
+use Prim.Native.Nat.{ℕ, _≤_}
 use native.Mathlib.Omega.{arith}
-use mathlib.Core.Path.{_≡_, refl, sym, _∙_}
-use mathlib.Core.Bool.{Bool·not-not}
-use lib.ListN.{getD}
-use lib.Dec.{lit≤}
+use mathlib.Core.Path.{_≡_, _∙_}
+use lib.ListN.{length, drop}
 use borrow.Author.Needs.{needs}
 use borrow.Author.Tests.{eq-eqb, ne-eqb}
 use Rattle.rules.specs.declared.Level.the-variants.{First}
-use Rattle.rules.specs.Words.{allowed, inGroup, firstFrom}
-use Rattle.rules.specs.Refusals.{numberOf}
-use Rattle.rules.specs.Commands.{indexBufferRow, exactly, rows, theRow, groupSize}
-use Rattle.rules.specs.Uses.{addressAt, sized, usesByRow, accessOf, accessAt}
-use Rattle.rules.specs.Masks.{masksOf, allowedOf, allowedAt, bitWrong}
-use Rattle.rules.specs.Values.{valueRules, ruleOf, valueWrong}
-use Rattle.rules.specs.Addresses.{accessWrong, rangeWrong}
-use Rattle.looks.specs.Looks.{contentOf}
-use Rattle.plain_mi.specs.Plain.{coded}
-use Rattle.plain_mi.proofs.Dwords.{any-dword}
-use Rattle.plain_mi.proofs.Headers.{other-exact}
-use Rattle.plain_mi.proofs.Lengths.{exact-past, exact-says}
-use Rattle.plain_mi.proofs.Tests.{asked}
+use Rattle.rules.specs.Commands.{indexBufferRow}
+use Rattle.plain_mi.specs.Plain.{wrongOf}
+use Rattle.plain_mi.proofs.Tests.{asked, answered, refuses, passes}
+use Rattle.plain_mi.proofs.Whole.{whole-refuses, head-fits}
+use Rattle.plain_3d.proofs.Rows.{index-buffer-row, index-buffer-tests, index-buffer-tested}
 use Rattle.plain_3d.proofs.type_3.index_buffer.Statement.{statement}
 use Rattle.plain_3d.proofs.type_3.index_buffer.Tie as tie
 
-row : theRow indexBufferRow .total ≡ exactly 3
-unfolding rows theRow
-row = refl
+abbrev start : tie.Else1 → tie.Start
+start c = c .before .before .before
 
-other-header : tie.Need-returns
-unfolding rows theRow
-other-header c =
-    let start = c .before .before .before .before in
-    c .other-header .ensures ∙ other-exact _ indexBufferRow _ First 3 (lit≤ tt) row (start .pre .1) (λ e low high. c .before .if1 .taken (omega arith))
+fits : (c : tie.Else1) → 5 ≤ length (start c .args .rest .now)
+fits c = head-fits _ _ (c .before .whole-header .ensures) (c .if1 .left)
 
-past : tie.Need-returns-2
-past c = c .at .ensures ∙ exact-past indexBufferRow 3 row _ _ _ (omega arith) (c .before .if2 .taken)
+-- the tests behind the first k of them decide
+abbrev Left : tie.Else1 → ℕ → Type 0
+Left c k = answered (drop k (index-buffer-tests (start c .args .w) (start c .args .rest .now))) 0 ≡ wrongOf (start c .args .w) indexBufferRow (start c .args .rest .now) First
 
-bit-1 : tie.Need-returns-3
-unfolding coded contentOf firstFrom numberOf bitWrong allowedAt allowedOf masksOf inGroup rows theRow groupSize allowed
-bit-1 c =
-    let called = c .before .before in
-    let whole = called .before .before in
-    exact-says indexBufferRow 3 row _ _ _ (omega arith) (whole .if2 .left)
-    (rw (whole .before .if1 .left, asked (called .allowed .ensures) (c .before .if3 .taken)) (c .at2 .ensures))
+all-left : (c : tie.Else1) → Left c 0
+all-left c =
+    let given = c .before .before .shared-slice-known .given in
+    index-buffer-tested _ _ (c .before .whole-header .ensures) (c .if1 .left) (given 2 .fits) (given 4 .fits)
 
-bit-3 : tie.Need-returns-4
-unfolding coded contentOf firstFrom numberOf bitWrong allowedAt allowedOf masksOf inGroup rows theRow groupSize allowed
-bit-3 c =
-    let called = c .before .before in
-    let first = called .before .before in
-    let whole = first .before .before .before in
-    let start = whole .before .before .before .before in
-    let second = any-dword (getD (start .args .rest .now) 2 0) (omega (arith, called .before .shared-slice-known4 .given 2)) in
-    exact-says indexBufferRow 3 row _ _ _ (omega arith) (whole .if2 .left)
-    (rw (
-      whole .before .if1 .left,
-      asked (first .before .allowed .ensures) (first .if3 .left),
-      second,
-      asked (called .allowed2 .ensures) (c .before .if4 .taken),
-    ) (c .at3 .ensures))
+first-kept : (c : tie.Else2) → Left (c .before .before .before) 1
+first-kept c = passes 2561 _ (asked (c .before .allowed .ensures) (c .if2 .left)) (all-left (c .before .before .before))
 
-value : tie.Need-returns-5
-unfolding coded contentOf firstFrom numberOf bitWrong allowedAt allowedOf masksOf inGroup rows theRow groupSize allowed
-    valueWrong valueRules ruleOf
-value c =
-    let word = c .before .before in
-    let third = word .before in
-    let first = third .before .before .before in
-    let whole = first .before .before .before in
-    let start = whole .before .before .before .before in
-    let second = any-dword (getD (start .args .rest .now) 2 0) (omega (arith, word .shared-slice-known5 .given 2)) in
-    let fourth = any-dword (getD (start .args .rest .now) 4 0) (omega (arith, word .shared-slice-known5 .given 4)) in
-    exact-says indexBufferRow 3 row _ _ _ (omega arith) (whole .if2 .left)
-    (rw (
-      whole .before .if1 .left,
-      asked (first .before .allowed .ensures) (first .if3 .left),
-      second,
-      asked (third .before .allowed2 .ensures) (third .if4 .left),
-      fourth,
-      eq-eqb _ _ (c .before .if5 .taken),
-    ) (c .at4 .ensures))
+third-kept : (c : tie.Else3) → Left (c .before .before .before .before .before .before) 2
+third-kept c = passes 2563 _ (asked (c .before .allowed2 .ensures) (c .if3 .left)) (first-kept (c .before .before .before))
 
-range : tie.Need-returns-6
-unfolding coded contentOf firstFrom numberOf bitWrong allowedAt allowedOf masksOf inGroup rows theRow groupSize allowed
-    valueWrong valueRules ruleOf rangeWrong addressAt accessAt accessOf usesByRow
-range c =
-    let called = c .before .before in
-    let format = called .before .before .before .before in
-    let third = format .before .before in
-    let first = third .before .before .before in
-    let whole = first .before .before .before in
-    let start = whole .before .before .before .before in
-    let second = any-dword (getD (start .args .rest .now) 2 0) (omega (arith, format .before .shared-slice-known5 .given 2)) in
-    let fourth = any-dword (getD (start .args .rest .now) 4 0) (omega (arith, format .before .shared-slice-known5 .given 4)) in
-    let wrong = accessWrong (start .args .w) (addressAt (start .args .rest .now) 2) (sized (getD (start .args .rest .now) 4 0)) in
-    exact-says indexBufferRow 3 row _ _ _ (omega arith) (whole .if2 .left)
-    (rw (
-      whole .before .if1 .left,
-      asked (first .before .allowed .ensures) (first .if3 .left),
-      second,
-      asked (third .before .allowed2 .ensures) (third .if4 .left),
-      fourth,
-      ne-eqb _ _ (format .if5 .left),
-      sym (Bool·not-not wrong) ∙ (asked (called .sized-fits .ensures) (c .before .if6 .taken)),
-    ) (c .at5 .ensures))
-
-nothing : tie.Need-returns-7
-unfolding coded contentOf firstFrom numberOf bitWrong allowedAt allowedOf masksOf inGroup rows theRow groupSize allowed
-    valueWrong valueRules ruleOf rangeWrong addressAt accessAt accessOf usesByRow
-nothing c =
-    let called = c .before in
-    let format = called .before .before .before .before in
-    let third = format .before .before in
-    let first = third .before .before .before in
-    let whole = first .before .before .before in
-    let start = whole .before .before .before .before in
-    let second = any-dword (getD (start .args .rest .now) 2 0) (omega (arith, format .before .shared-slice-known5 .given 2)) in
-    let fourth = any-dword (getD (start .args .rest .now) 4 0) (omega (arith, format .before .shared-slice-known5 .given 4)) in
-    let wrong = accessWrong (start .args .w) (addressAt (start .args .rest .now) 2) (sized (getD (start .args .rest .now) 4 0)) in
-    exact-says indexBufferRow 3 row _ _ _ (omega arith) (whole .if2 .left)
-    (rw (
-      whole .before .if1 .left,
-      asked (first .before .allowed .ensures) (first .if3 .left),
-      second,
-      asked (third .before .allowed2 .ensures) (third .if4 .left),
-      fourth,
-      ne-eqb _ _ (format .if5 .left),
-      sym (Bool·not-not wrong) ∙ (asked (called .sized-fits .ensures) (c .if6 .left)),
-    ))
+format-known : (c : tie.Else4) → Left (c .before .before .before .before .before .before .before .before) 3
+format-known c = passes 3073 _ (ne-eqb _ _ (c .if4 .left)) (third-kept (c .before .before))
 
 pub index-buffer-spec : {M : Type 1} → statement M
 index-buffer-spec =
     tie.close
-    (tie.spec (λ c. search needs) (λ c κs. search needs) other-header
-    (λ c κs. search needs) past
-    (λ c. search needs) (λ c κs. search needs) (λ c κs. search needs) bit-1
-    (λ c. search needs) (λ c κs. search needs) (λ c κs. search needs) bit-3
-    (λ c. search needs) (λ c κs. search needs) value
-    (λ c. search needs) (λ c. search needs) (λ c. search needs) (λ c κs. search needs) (λ c κs. search needs) range nothing)
+    (tie.spec (λ c κs. search needs)
+    (λ c. whole-refuses index-buffer-row _ _ First (c .before .whole-header .ensures) (c .before .before .before .pre .1) (c .if1 .taken))
+    (λ c. omega (arith, fits (c .before))) (λ c κs. search needs) (λ c κs. search needs)
+    (λ c. c .at .ensures ∙ refuses 2561 _ (asked (c .before .before .allowed .ensures) (c .before .if2 .taken)) (all-left (c .before .before .before .before)))
+    (λ c. omega (arith, fits (c .before .before .before .before))) (λ c κs. search needs) (λ c κs. search needs)
+    (λ c. c .at2 .ensures ∙ refuses 2563 _ (asked (c .before .before .allowed2 .ensures) (c .before .if3 .taken)) (first-kept (c .before .before .before .before)))
+    (λ c. omega (arith, fits (c .before .before .before .before .before .before .before))) (λ c κs. search needs)
+    (λ c. c .at3 .ensures ∙ refuses 3073 _ (eq-eqb _ _ (c .before .if4 .taken)) (third-kept (c .before .before .before)))
+    (λ c. omega (arith, fits (c .before .before .before .before .before .before .before .before .before)))
+    (λ c. omega (arith, fits (c .before .before .before .before .before .before .before .before .before .before)))
+    (λ c. omega (arith, fits (c .before .before .before .before .before .before .before .before .before .before .before)))
+    (λ c κs. search needs) (λ c κs. search needs)
+    (λ c. c .at4 .ensures ∙ refuses 3330 _ (asked (c .before .before .sized-fits .ensures) (c .before .if5 .taken)) (format-known (c .before .before .before .before .before .before)))
+    (λ c. passes 3330 _ (asked (c .before .sized-fits .ensures) (c .if5 .left)) (format-known (c .before .before .before .before .before))))

@@ -1,196 +1,93 @@
--- `plain_3d::type_3::pipe` meets its contract: the ways out in the order of the refusals.
+-- `plain_3d::type_3::pipe` meets its contract: the header, and then one test after the other.
 -- Assumes nothing.
+use Prim.Native.Nat.{ℕ, _≤_}
 use native.Mathlib.Omega.{arith}
-use mathlib.Core.Path.{_≡_, refl, _∙_}
-use mathlib.Core.Bool.{or-false}
-use lib.ListN.{getD}
-use lib.Dec.{lit≤}
+use mathlib.Core.Path.{_≡_, ap, _∙_}
+use mathlib.Core.Bool.{not}
+use lib.ListN.{length, drop}
 use borrow.Author.Needs.{needs}
 use borrow.Author.Tests.{eq-eqb, ne-eqb}
-use Rattle.rules.specs.declared.Reason.the-variants.{ValueBroken}
 use Rattle.rules.specs.declared.Level.the-variants.{First}
-use Rattle.rules.specs.Words.{allowed, some, inGroup, firstFrom}
-use Rattle.rules.specs.Refusals.{batchWindow, numberOf, refuseFound}
-use Rattle.rules.specs.Windows.{windowsWithin, fits}
-use Rattle.rules.specs.Commands.{pipeRow, exactly, rows, theRow, groupSize}
-use Rattle.rules.specs.Uses.{addressAt, usesByRow, accessOf, accessAt}
-use Rattle.rules.specs.Masks.{masksOf, allowedOf, allowedAt, bitWrong}
-use Rattle.rules.specs.Values.{valueRules, ruleOf, valueWrong}
-use Rattle.rules.specs.Addresses.{rangeWrong}
-use Rattle.looks.specs.Looks.{contentOf}
-use Rattle.plain_mi.specs.Plain.{coded}
-use Rattle.plain_mi.proofs.Dwords.{any-dword}
-use Rattle.plain_mi.proofs.Headers.{other-exact}
-use Rattle.plain_mi.proofs.Lengths.{exact-past, exact-says}
-use Rattle.plain_mi.proofs.Tests.{asked}
-use Rattle.plain_mi.proofs.Coding.{alone}
+use Rattle.rules.specs.Commands.{pipeRow}
+use Rattle.plain_mi.specs.Plain.{wrongOf}
+use Rattle.plain_mi.proofs.Fitting.{scratch-holds}
+use Rattle.plain_mi.proofs.Tests.{asked, answered, refuses, passes}
+use Rattle.plain_mi.proofs.Whole.{whole-refuses, head-fits}
+use Rattle.plain_3d.proofs.Rows.{pipe-row, pipe-bits, pipe-behind, pipe-tests, pipe-tested, pipe-unsynced, pipe-synced}
 use Rattle.plain_3d.proofs.type_3.pipe.Statement.{statement}
 use Rattle.plain_3d.proofs.type_3.pipe.Tie as tie
 
-row : theRow pipeRow .total ≡ exactly 4
-unfolding rows theRow
-row = refl
+abbrev start : tie.Else1 → tie.Start
+start c = c .before .before .before
 
-other-header : tie.Need-returns
-unfolding rows theRow
-other-header c =
-    let start = c .before .before .before .before in
-    c .other-header .ensures ∙ other-exact _ pipeRow _ First 4 (lit≤ tt) row (start .pre .1) (λ e low high. c .before .if1 .taken (omega arith))
+fits : (c : tie.Else1) → 6 ≤ length (start c .args .rest .now)
+fits c = head-fits _ _ (c .before .whole-header .ensures) (c .if1 .left)
 
-past : tie.Need-returns-2
-past c = c .at .ensures ∙ exact-past pipeRow 4 row _ _ _ (omega arith) (c .before .if2 .taken)
+abbrev wrong : tie.Else1 → ℕ
+wrong c = wrongOf (start c .args .w) pipeRow (start c .args .rest .now) First
 
-bit-1 : tie.Need-returns-3
-unfolding coded contentOf firstFrom numberOf bitWrong allowedAt allowedOf masksOf inGroup rows theRow groupSize allowed
-bit-1 c =
-    let called = c .before .before in
-    let whole = called .before .before in
-    exact-says pipeRow 4 row _ _ _ (omega arith) (whole .if2 .left)
-    (rw (whole .before .if1 .left, asked (called .allowed .ensures) (c .before .if3 .taken)) (c .at2 .ensures))
+-- of 10 the tests behind the first k, and what stands behind them, decide
+abbrev Bits : tie.Else1 → ℕ → Type 0
+Bits c k = let d = start c .args .rest .now in answered (drop k (pipe-bits d)) (pipe-behind (start c .args .w) d) ≡ wrong c
 
-bit-2 : tie.Need-returns-4
-unfolding coded contentOf firstFrom numberOf bitWrong allowedAt allowedOf masksOf inGroup rows theRow groupSize allowed
-bit-2 c =
-    let called = c .before .before in
-    let first = called .before .before in
-    let whole = first .before .before .before in
-    exact-says pipeRow 4 row _ _ _ (omega arith) (whole .if2 .left)
-    (rw (
-      whole .before .if1 .left,
-      asked (first .before .allowed .ensures) (first .if3 .left),
-      asked (called .allowed2 .ensures) (c .before .if4 .taken),
-    ) (c .at3 .ensures))
+all-left : (c : tie.Else1) → Bits c 0
+all-left c =
+    let given = c .before .before .shared-slice-known .given in
+    pipe-tested _ _ (c .before .whole-header .ensures) (c .if1 .left) (given 4 .fits) (given 5 .fits)
 
-bit-3 : tie.Need-returns-5
-unfolding coded contentOf firstFrom numberOf bitWrong allowedAt allowedOf masksOf inGroup rows theRow groupSize allowed
-bit-3 c =
-    let called = c .before .before in
-    let second = called .before .before in
-    let first = second .before .before .before in
-    let whole = first .before .before .before in
-    exact-says pipeRow 4 row _ _ _ (omega arith) (whole .if2 .left)
-    (rw (
-      whole .before .if1 .left,
-      asked (first .before .allowed .ensures) (first .if3 .left),
-      asked (second .before .allowed2 .ensures) (second .if4 .left),
-      asked (called .allowed3 .ensures) (c .before .if5 .taken),
-    ) (c .at4 .ensures))
+first-kept : (c : tie.Else2) → Bits (c .before .before .before) 1
+first-kept c = passes 2561 _ (asked (c .before .allowed .ensures) (c .if2 .left)) (all-left (c .before .before .before))
 
-unsynced : tie.Need-returns-6
-unfolding coded contentOf firstFrom numberOf bitWrong allowedAt allowedOf masksOf inGroup rows theRow groupSize allowed
-    valueWrong valueRules ruleOf rangeWrong addressAt accessAt accessOf usesByRow fits some windowsWithin
+second-kept : (c : tie.Else3) → Bits (c .before .before .before .before .before .before) 2
+second-kept c = passes 2562 _ (asked (c .before .allowed2 .ensures) (c .if3 .left)) (first-kept (c .before .before .before))
+
+third-kept : (c : tie.Else4) → Bits (c .before .before .before .before .before .before .before .before .before) 3
+third-kept c = passes 2563 _ (asked (c .before .allowed3 .ensures) (c .if4 .left)) (second-kept (c .before .before .before))
+
+-- with post-sync, of 12 and 13 the tests behind the first k
+abbrev Left : tie.Else1 → ℕ → Type 0
+Left c k = answered (drop k (pipe-tests (start c .args .w) (start c .args .rest .now))) 0 ≡ wrong c
+
+synced : (c : tie.Else5) → Left (c .before .before .before .before .before .before .before .before .before .before .before) 0
+synced c = pipe-synced _ _ (c .if5 .left) ∙ third-kept (c .before .before)
+
+aligned : (c : tie.Else6) → Left (c .before .before .before .before .before .before .before .before .before .before .before .before .before) 1
+aligned c = passes 3074 _ (ap not (eq-eqb _ _ (c .if6 .left))) (synced (c .before .before))
+
+unsynced : tie.Need-returns-5
 unsynced c =
-    let post-sync = c .before in
-    let third = post-sync .before .before in
-    let second = third .before .before .before in
-    let first = second .before .before .before in
-    let whole = first .before .before .before in
-    let start = whole .before .before .before .before in
-    let fourth = any-dword (getD (start .args .rest .now) 4 0) (omega (arith, whole .before .before .before .shared-slice-known .given 4)) in
-    let fifth = any-dword (getD (start .args .rest .now) 5 0) (omega (arith, whole .before .before .before .shared-slice-known .given 5)) in
-    let values = refuseFound ValueBroken batchWindow 0 (firstFrom (valueWrong pipeRow (start .args .rest .now)) 0 6) in
-    exact-says pipeRow 4 row _ _ _ (omega arith) (whole .if2 .left)
-    (rw (
-      whole .before .if1 .left,
-      asked (first .before .allowed .ensures) (first .if3 .left),
-      asked (second .before .allowed2 .ensures) (second .if4 .left),
-      asked (third .before .allowed3 .ensures) (third .if5 .left),
-      fourth,
-      fifth,
-      eq-eqb _ _ (post-sync .if6 .taken),
-    )
-    (rw (eq-eqb _ _ (post-sync .if6 .taken)) at (c .pipe-unsynced .ensures ∙ alone values)))
+    let left = c .before in
+    let kept = left .before .before in
+    c .pipe-unsynced .ensures ∙ pipe-unsynced _ _ (left .if5 .taken) ∙ third-kept kept
 
-unaligned : tie.Need-returns-7
-unfolding coded contentOf firstFrom numberOf bitWrong allowedAt allowedOf masksOf inGroup rows theRow groupSize allowed
-    valueWrong valueRules ruleOf
-unaligned c =
-    let post-sync = c .before .before .before in
-    let third = post-sync .before .before in
-    let second = third .before .before .before in
-    let first = second .before .before .before in
-    let whole = first .before .before .before in
-    let start = whole .before .before .before .before in
-    let fourth = any-dword (getD (start .args .rest .now) 4 0) (omega (arith, whole .before .before .before .shared-slice-known .given 4)) in
-    let fifth = any-dword (getD (start .args .rest .now) 5 0) (omega (arith, whole .before .before .before .shared-slice-known .given 5)) in
-    exact-says pipeRow 4 row _ _ _ (omega arith) (whole .if2 .left)
-    (rw (
-      whole .before .if1 .left,
-      asked (first .before .allowed .ensures) (first .if3 .left),
-      asked (second .before .allowed2 .ensures) (second .if4 .left),
-      asked (third .before .allowed3 .ensures) (third .if5 .left),
-      fourth,
-      fifth,
-      ne-eqb _ _ (post-sync .if6 .left),
-      ne-eqb _ _ (c .before .if7 .taken),
-    ) (c .at5 .ensures))
-
-outside : tie.Need-returns-8
-unfolding coded contentOf firstFrom numberOf bitWrong allowedAt allowedOf masksOf inGroup rows theRow groupSize allowed
-    valueWrong valueRules ruleOf rangeWrong addressAt accessAt accessOf usesByRow fits some windowsWithin
+outside : tie.Need-returns-7
 outside c =
-    let called = c .before .before in
-    let aligned = called .before .before .before .before in
-    let post-sync = aligned .before .before in
-    let third = post-sync .before .before in
-    let second = third .before .before .before in
-    let first = second .before .before .before in
-    let whole = first .before .before .before in
-    let start = whole .before .before .before .before in
-    let fourth = any-dword (getD (start .args .rest .now) 4 0) (omega (arith, whole .before .before .before .shared-slice-known .given 4)) in
-    let fifth = any-dword (getD (start .args .rest .now) 5 0) (omega (arith, whole .before .before .before .shared-slice-known .given 5)) in
-    exact-says pipeRow 4 row _ _ _ (omega arith) (whole .if2 .left)
-    (rw (
-      whole .before .if1 .left,
-      asked (first .before .allowed .ensures) (first .if3 .left),
-      asked (second .before .allowed2 .ensures) (second .if4 .left),
-      asked (third .before .allowed3 .ensures) (third .if5 .left),
-      fourth,
-      fifth,
-      ne-eqb _ _ (post-sync .if6 .left),
-      eq-eqb _ _ (aligned .if7 .left),
-      ← called .before .address-of .ensures,
-      or-false,
-      asked (called .holds .ensures) (c .before .if8 .taken),
-    ) (c .at6 .ensures))
+    let fit = c .before .before in
+    c .at5 .ensures
+    ∙ refuses 3330 _ (asked (scratch-holds _ 8 (fit .before .address-of .ensures) (fit .holds .ensures)) (c .before .if7 .taken))
+    (aligned (fit .before .before .before .before))
 
-nothing : tie.Need-returns-9
-unfolding coded contentOf firstFrom numberOf bitWrong allowedAt allowedOf masksOf inGroup rows theRow groupSize allowed
-    valueWrong valueRules ruleOf rangeWrong addressAt accessAt accessOf usesByRow fits some windowsWithin
+nothing : tie.Need-returns-8
 nothing c =
-    let called = c .before in
-    let aligned = called .before .before .before .before in
-    let post-sync = aligned .before .before in
-    let third = post-sync .before .before in
-    let second = third .before .before .before in
-    let first = second .before .before .before in
-    let whole = first .before .before .before in
-    let start = whole .before .before .before .before in
-    let fourth = any-dword (getD (start .args .rest .now) 4 0) (omega (arith, whole .before .before .before .shared-slice-known .given 4)) in
-    let fifth = any-dword (getD (start .args .rest .now) 5 0) (omega (arith, whole .before .before .before .shared-slice-known .given 5)) in
-    exact-says pipeRow 4 row _ _ _ (omega arith) (whole .if2 .left)
-    (rw (
-      whole .before .if1 .left,
-      asked (first .before .allowed .ensures) (first .if3 .left),
-      asked (second .before .allowed2 .ensures) (second .if4 .left),
-      asked (third .before .allowed3 .ensures) (third .if5 .left),
-      fourth,
-      fifth,
-      ne-eqb _ _ (post-sync .if6 .left),
-      eq-eqb _ _ (aligned .if7 .left),
-      ← called .before .address-of .ensures,
-      or-false,
-      asked (called .holds .ensures) (c .if8 .left),
-    ))
+    let fit = c .before in
+    passes 3330 _ (asked (scratch-holds _ 8 (fit .before .address-of .ensures) (fit .holds .ensures)) (c .if7 .left))
+    (aligned (fit .before .before .before .before))
 
 pub pipe-spec : {M : Type 1} → statement M
 pipe-spec =
     tie.close
-    (tie.spec (λ c. search needs) (λ c κs. search needs) other-header
-    (λ c κs. search needs) past
-    (λ c. search needs) (λ c κs. search needs) (λ c κs. search needs) bit-1
-    (λ c. search needs) (λ c κs. search needs) (λ c κs. search needs) bit-2
-    (λ c. search needs) (λ c κs. search needs) (λ c κs. search needs) bit-3
-    (λ c. search needs) (λ c κs. search needs) unsynced
-    (λ c. search needs) (λ c κs. search needs) unaligned
-    (λ c. search needs) (λ c. search needs) (λ c κs. search needs) (λ c κs. search needs) (λ c κs. search needs) outside nothing)
+    (tie.spec (λ c κs. search needs)
+    (λ c. whole-refuses pipe-row _ _ First (c .before .whole-header .ensures) (c .before .before .before .pre .1) (c .if1 .taken))
+    (λ c. omega (arith, fits (c .before))) (λ c κs. search needs) (λ c κs. search needs)
+    (λ c. c .at .ensures ∙ refuses 2561 _ (asked (c .before .before .allowed .ensures) (c .before .if2 .taken)) (all-left (c .before .before .before .before)))
+    (λ c. omega (arith, fits (c .before .before .before .before))) (λ c κs. search needs) (λ c κs. search needs)
+    (λ c. c .at2 .ensures ∙ refuses 2562 _ (asked (c .before .before .allowed2 .ensures) (c .before .if3 .taken)) (first-kept (c .before .before .before .before)))
+    (λ c. omega (arith, fits (c .before .before .before .before .before .before .before))) (λ c κs. search needs) (λ c κs. search needs)
+    (λ c. c .at3 .ensures ∙ refuses 2563 _ (asked (c .before .before .allowed3 .ensures) (c .before .if4 .taken)) (second-kept (c .before .before .before .before)))
+    (λ c. omega (arith, fits (c .before .before .before .before .before .before .before .before .before .before)))
+    (λ c κs. (fits (c .before .before .before .before .before .before .before .before .before .before .before), c .if5 .taken)) unsynced
+    (λ c. omega (arith, fits (c .before .before .before .before .before .before .before .before .before .before .before .before))) (λ c κs. search needs)
+    (λ c. c .at4 .ensures ∙ refuses 3074 _ (ap not (ne-eqb _ _ (c .before .if6 .taken))) (synced (c .before .before .before)))
+    (λ c. omega (arith, fits (c .before .before .before .before .before .before .before .before .before .before .before .before .before .before)))
+    (λ c. omega (arith, fits (c .before .before .before .before .before .before .before .before .before .before .before .before .before .before .before)))
+    (λ c κs. search needs) (λ c κs. search needs) (λ c κs. search needs) outside nothing)

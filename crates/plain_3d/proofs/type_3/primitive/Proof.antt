@@ -1,6 +1,6 @@
 -- `plain_3d::type_3::primitive` meets its contract: the ways out in the order of the refusals.
 -- Assumes nothing.
-use Prim.Native.Nat.{ℕ, _+_, _-_, _*_, _/_, _%_, _^_, _≤_}
+use Prim.Native.Nat.{ℕ, _+_, _-_, _*_, _/_, _%_}
 use native.Mathlib.Omega.{arith}
 use mathlib.Core.Path.{_≡_, refl, _∙_}
 use mathlib.Core.Bool.{true}
@@ -10,7 +10,7 @@ use borrow.Author.Needs.{needs}
 use borrow.Author.Tests.{eq-eqb, ne-eqb}
 use Rattle.rules.specs.declared.Reason.the-variants.{ValueBroken}
 use Rattle.rules.specs.declared.Level.the-variants.{First}
-use Rattle.rules.specs.Words.{cleared, allowed, inGroup, firstFrom}
+use Rattle.rules.specs.Words.{allowed, inGroup, firstFrom}
 use Rattle.rules.specs.Refusals.{batchWindow, numberOf, refuseFound}
 use Rattle.rules.specs.Commands.{primitiveRow, exactly, rows, theRow, groupSize}
 use Rattle.rules.specs.Uses.{addressAt, usesByRow, accessOf, accessAt}

@@ -1,99 +1,66 @@
--- `plain_3d::type_3::primitive_by_end` meets its contract: one dword after the other, where bit 9 of the first has the rule asked.
+-- `plain_3d::type_3::primitive_by_end` meets its contract: one test after the other, where bit 9 of the first dword has the rule asked.
 -- Assumes nothing.
+use Prim.Native.Nat.{ℕ, _/_, _%_}
+use mathlib.Core.Path.{_≡_, sym, ap, _∙_}
+use mathlib.Core.Bool.{not, or-false}
+use mathlib.Core.List.{List, [], _∷_}
+use lib.Dec.{eqb}
+use lib.ListN.{getD, drop}
 use borrow.Author.Needs.{needs}
 use borrow.Author.Tests.{eq-eqb, ne-eqb}
-use Rattle.rules.specs.Words.{inGroup, firstFrom}
+use Rattle.rules.specs.declared.Reason.the-variants.{ValueBroken}
+use Rattle.rules.specs.Words.{inGroup}
 use Rattle.rules.specs.Refusals.{numberOf}
-use Rattle.rules.specs.Commands.{rows, theRow, groupSize}
+use Rattle.rules.specs.Commands.{primitiveRow, rows, theRow, groupSize}
 use Rattle.rules.specs.Values.{valueRules, ruleOf, valueWrong}
-use Rattle.plain_mi.specs.Plain.{coded}
+use Rattle.plain_mi.specs.Plain.{firstCoded}
+use Rattle.plain_mi.proofs.Tests.{Test, answered, tested, searched-last, refuses, passes, one-by-one}
 use Rattle.plain_3d.proofs.type_3.primitive_by_end.Statement.{statement}
 use Rattle.plain_3d.proofs.type_3.primitive_by_end.Tie as tie
 
-header-bit : tie.Need-returns
-unfolding coded firstFrom numberOf inGroup rows theRow groupSize valueWrong valueRules ruleOf
-header-bit c =
-    let start = c .before .before .before in
-    rw (start .pre .2, ← start .pre .1, eq-eqb _ _ (c .before .if1 .taken)) (c .at .ensures)
+abbrev tests : ℕ → List ℕ → List Test
+tests header d =
+    (eqb (header / 0x400 % 2) 1, 3073)
+    ∷ (eqb (getD d 1 0 / 0x100 % 2) 1, 3073)
+    ∷ (not (eqb (getD d 3 0) 0), 3075)
+    ∷ (not (eqb (getD d 5 0) 0), 3077)
+    ∷ (not (eqb (getD d 6 0) 0), 3078)
+    ∷ []
 
-bit-8 : tie.Need-returns-2
-unfolding coded firstFrom numberOf inGroup rows theRow groupSize valueWrong valueRules ruleOf
-bit-8 c =
-    let header-clear = c .before .before .before in
-    let start = header-clear .before .before in
-    rw (start .pre .2, ← start .pre .1, ne-eqb _ _ (header-clear .if1 .left), eq-eqb _ _ (c .before .if2 .taken)) (c .at2 .ensures)
+-- the tests behind the first n of them decide
+abbrev Left : tie.Start → ℕ → Type 0
+Left s n = let d = s .args .rest .now in answered (drop n (tests (s .args .header) d)) 0 ≡ firstCoded ValueBroken (valueWrong primitiveRow d) 0 7
 
-third : tie.Need-returns-3
-unfolding coded firstFrom numberOf inGroup rows theRow groupSize valueWrong valueRules ruleOf
-third c =
-    let bit-clear = c .before .before .before in
-    let header-clear = bit-clear .before .before in
-    let start = header-clear .before .before in
-    rw (
-      start .pre .2,
-      ← start .pre .1,
-      ne-eqb _ _ (header-clear .if1 .left),
-      ne-eqb _ _ (bit-clear .if2 .left),
-      ne-eqb _ _ (c .before .if3 .taken),
-    ) (c .at3 .ensures)
+all-left : (s : tie.Start) → Left s 0
+unfolding tested inGroup rows theRow groupSize valueWrong valueRules ruleOf numberOf
+all-left s =
+    sym
+    (searched-last ValueBroken (valueWrong primitiveRow (s .args .rest .now)) 0 7
+    ∙ rw (s .pre .2, ← s .pre .1, or-false) (sym (one-by-one (eqb (s .args .header / 0x400 % 2) 1) _ 3073 (answered (drop 2 (tests (s .args .header) (s .args .rest .now))) 0))))
 
-fifth : tie.Need-returns-4
-unfolding coded firstFrom numberOf inGroup rows theRow groupSize valueWrong valueRules ruleOf
-fifth c =
-    let third-clear = c .before .before .before in
-    let bit-clear = third-clear .before .before in
-    let header-clear = bit-clear .before .before in
-    let start = header-clear .before .before in
-    rw (
-      start .pre .2,
-      ← start .pre .1,
-      ne-eqb _ _ (header-clear .if1 .left),
-      ne-eqb _ _ (bit-clear .if2 .left),
-      eq-eqb _ _ (third-clear .if3 .left),
-      ne-eqb _ _ (c .before .if4 .taken),
-    ) (c .at4 .ensures)
+header-clear : (c : tie.Else1) → Left (c .before .before) 1
+header-clear c = passes 3073 _ (ne-eqb _ _ (c .if1 .left)) (all-left (c .before .before))
 
-sixth : tie.Need-returns-5
-unfolding coded firstFrom numberOf inGroup rows theRow groupSize valueWrong valueRules ruleOf
-sixth c =
-    let fifth-clear = c .before .before .before in
-    let third-clear = fifth-clear .before .before in
-    let bit-clear = third-clear .before .before in
-    let header-clear = bit-clear .before .before in
-    let start = header-clear .before .before in
-    rw (
-      start .pre .2,
-      ← start .pre .1,
-      ne-eqb _ _ (header-clear .if1 .left),
-      ne-eqb _ _ (bit-clear .if2 .left),
-      eq-eqb _ _ (third-clear .if3 .left),
-      eq-eqb _ _ (fifth-clear .if4 .left),
-      ne-eqb _ _ (c .before .if5 .taken),
-    ) (c .at5 .ensures)
+bit-clear : (c : tie.Else2) → Left (c .before .before .before .before) 2
+bit-clear c = passes 3073 _ (ne-eqb _ _ (c .if2 .left)) (header-clear (c .before .before))
 
-nothing : tie.Need-returns-6
-unfolding coded firstFrom numberOf inGroup rows theRow groupSize valueWrong valueRules ruleOf
-nothing c =
-    let fifth-clear = c .before .before in
-    let third-clear = fifth-clear .before .before in
-    let bit-clear = third-clear .before .before in
-    let header-clear = bit-clear .before .before in
-    let start = header-clear .before .before in
-    rw (
-      start .pre .2,
-      ← start .pre .1,
-      ne-eqb _ _ (header-clear .if1 .left),
-      ne-eqb _ _ (bit-clear .if2 .left),
-      eq-eqb _ _ (third-clear .if3 .left),
-      eq-eqb _ _ (fifth-clear .if4 .left),
-      eq-eqb _ _ (c .if5 .left),
-    )
+third-clear : (c : tie.Else3) → Left (c .before .before .before .before .before .before) 3
+third-clear c = passes 3075 _ (ap not (eq-eqb _ _ (c .if3 .left))) (bit-clear (c .before .before))
+
+fifth-clear : (c : tie.Else4) → Left (c .before .before .before .before .before .before .before .before) 4
+fifth-clear c = passes 3077 _ (ap not (eq-eqb _ _ (c .if4 .left))) (third-clear (c .before .before))
 
 pub primitive-by-end-spec : {M : Type 1} → statement M
 primitive-by-end-spec =
     tie.close
-    (tie.spec (λ c κs. search needs) header-bit
-    (λ c. search needs) (λ c κs. search needs) bit-8
-    (λ c. search needs) (λ c κs. search needs) third
-    (λ c. search needs) (λ c κs. search needs) fifth
-    (λ c. search needs) (λ c κs. search needs) sixth nothing)
+    (tie.spec (λ c κs. search needs)
+    (λ c. c .at .ensures ∙ refuses 3073 _ (eq-eqb _ _ (c .before .if1 .taken)) (all-left (c .before .before .before)))
+    (λ c. search needs) (λ c κs. search needs)
+    (λ c. c .at2 .ensures ∙ refuses 3073 _ (eq-eqb _ _ (c .before .if2 .taken)) (header-clear (c .before .before .before)))
+    (λ c. search needs) (λ c κs. search needs)
+    (λ c. c .at3 .ensures ∙ refuses 3075 _ (ap not (ne-eqb _ _ (c .before .if3 .taken))) (bit-clear (c .before .before .before)))
+    (λ c. search needs) (λ c κs. search needs)
+    (λ c. c .at4 .ensures ∙ refuses 3077 _ (ap not (ne-eqb _ _ (c .before .if4 .taken))) (third-clear (c .before .before .before)))
+    (λ c. search needs) (λ c κs. search needs)
+    (λ c. c .at5 .ensures ∙ refuses 3078 _ (ap not (ne-eqb _ _ (c .before .if5 .taken))) (fifth-clear (c .before .before .before)))
+    (λ c. passes 3078 _ (ap not (eq-eqb _ _ (c .if5 .left))) (fifth-clear (c .before .before))))

@@ -2,10 +2,12 @@
 -- Assumes nothing.
 use borrow.Author.Needs.{needs}
 use borrow.Author.Tests.{eq-eqb, ne-eqb, lt-ltb, le-ltb}
+use Rattle.plain_mi.specs.Plain.{headOf}
 use Rattle.plain_mi.proofs.heads.other_header.Statement.{statement}
 use Rattle.plain_mi.proofs.heads.other_header.Tie as tie
 
 pub other-header-spec : {M : Type 1} → statement M
+unfolding headOf
 other-header-spec =
     tie.close
     (tie.spec (λ c. search needs) (λ c κs. search needs)

@@ -1,45 +1,34 @@
 -- `plain_mi::type_0::pair_value` meets its contract: the first dword of a pair is a register, the second has no rule.
 -- Assumes nothing.
-use borrow.Author.Needs.{needs}
 use Prim.Native.Nat.{_+_}
 use native.Mathlib.Omega.{arith}
-use mathlib.Core.Path.{refl, sym, ap, _∙_}
-use mathlib.Core.Bool.{not}
-use Rattle.rules.specs.Commands.{setRegistersRow, rows, theRow, groupSize}
+use mathlib.Core.Path.{_≡_, refl, _∙_}
+use mathlib.Core.Bool.{cond, not}
+use lib.ListN.{getD}
+use borrow.Author.Needs.{needs}
+use Rattle.rules.specs.declared.Reason.the-variants.{ValueBroken}
+use Rattle.rules.specs.Formats.{knownRegister}
 use Rattle.rules.specs.Refusals.{numberOf}
-use Rattle.rules.specs.Values.{valueRules, ruleOf}
-use Rattle.plain_mi.proofs.Coding.{is-first, not-first, none-left}
-use Rattle.plain_mi.proofs.Dwords.{spot-in, value-at}
+use Rattle.rules.specs.Commands.{setRegistersRow, rows, theRow, groupSize}
+use Rattle.rules.specs.Values.{valueRules, ruleOf, valueWrong}
+use Rattle.plain_mi.specs.Plain.{firstCoded}
+use Rattle.plain_mi.proofs.Tests.{asked, refuses, passes, in-two}
+use Rattle.plain_mi.proofs.Dwords.{value-in}
 use Rattle.plain_mi.proofs.type_0.pair_value.Statement.{statement}
 use Rattle.plain_mi.proofs.type_0.pair_value.Tie as tie
 
-found : tie.Need-returns
-unfolding rows theRow groupSize numberOf valueRules ruleOf
-found c =
-    let test = c .before .before in
-    let start = test .before .before .before in
-    let k = start .args .k in
-    c .at .ensures
-    ∙ sym
-    (is-first _ _ k 1
-    (value-at setRegistersRow _ _ 1 (spot-in 2 k 0 (start .pre .0) (start .pre .2) (omega arith) (omega arith))
-    ∙ ap not (sym (test .known-register .ensures))
-    ∙ c .before .if1 .taken))
-
-none : tie.Need-returns-2
-unfolding rows theRow groupSize valueRules ruleOf
-none c =
-    let test = c .before in
-    let start = test .before .before .before in
-    let k = start .args .k in
-    sym
-    (not-first _ _ k 1
-    (value-at setRegistersRow _ _ 1 (spot-in 2 k 0 (start .pre .0) (start .pre .2) (omega arith) (omega arith))
-    ∙ ap not (sym (test .known-register .ensures))
-    ∙ c .if1 .left)
-    ∙ not-first _ _ (k + 1) 0 (value-at setRegistersRow _ _ 2 (spot-in 2 k 1 (start .pre .0) (start .pre .2) (omega arith) refl))
-    ∙ none-left _ _ (k + 1 + 1))
+decides : (s : tie.Start) → let k = s .args .k in let d = s .args .d .now in
+    cond (not (knownRegister (getD d k 0))) (3072 + k) 0 ≡ firstCoded ValueBroken (valueWrong setRegistersRow d) k 2
+unfolding rows theRow groupSize valueRules ruleOf numberOf
+decides s =
+    in-two _ _ (s .args .k) (value-in setRegistersRow refl _ _ (s .pre) 0 (omega arith) (omega arith))
+    (value-in setRegistersRow refl _ _ (s .pre) 1 (omega arith) refl)
 
 pub pair-value-spec : {M : Type 1} → statement M
 pair-value-spec =
-    tie.close (tie.spec (λ c. search needs) (λ c. search needs) (λ c κs. search needs) (λ c κs. search needs) found none)
+    tie.close
+    (tie.spec (λ c. search needs) (λ c. search needs) (λ c κs. search needs) (λ c κs. search needs)
+    (λ c.
+    let test = c .before .before in
+    c .at .ensures ∙ refuses _ _ (asked (test .known-register .ensures) (c .before .if1 .taken)) (decides (test .before .before .before)))
+    (λ c. let test = c .before in passes _ _ (asked (test .known-register .ensures) (c .if1 .left)) (decides (test .before .before .before))))

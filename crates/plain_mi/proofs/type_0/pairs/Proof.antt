@@ -1,50 +1,31 @@
 -- `plain_mi::type_0::pairs` meets its contract: nothing is wrong with any pair, or the first 10 says so, and else the first 12.
 -- Assumes nothing.
 use borrow.Author.Needs.{needs}
-use mathlib.Core.Path.{_≡_, refl, sym, _∙_}
-use Prim.Native.Nat.{ℕ, _<_}
-use mathlib.Core.Bool.{false}
-use mathlib.Core.List.{List}
-use lib.ListN.{length}
+use mathlib.Core.Path.{refl}
 use Rattle.rules.specs.declared.Level.the-variants.{First}
 use Rattle.rules.specs.Commands.{setRegistersRow}
 use Rattle.rules.specs.Words.{inGroup}
-use Rattle.rules.specs.Masks.{bitWrong}
 use Rattle.rules.specs.Uses.{usesByRow, accessOf, accessAt}
 use Rattle.rules.specs.Values.{valueRules, ruleOf, valueWrong}
 use Rattle.rules.specs.Addresses.{rangeWrong}
 use Rattle.plain_mi.specs.Plain.{noWindows}
-use Rattle.plain_mi.proofs.Cleanness.{no-ranges}
-use Rattle.plain_mi.proofs.Content.{HeaderRight, bit-says, value-decides, nothing-said}
+use Rattle.plain_mi.proofs.Content.{HeaderRight, all-clean, bit-first, value-last}
 use Rattle.plain_mi.proofs.type_0.pairs.Statement.{statement}
 use Rattle.plain_mi.proofs.type_0.pairs.Tie as tie
 
-header : (d : List ℕ) → 0 < length d → bitWrong setRegistersRow d 0 ≡ false → HeaderRight noWindows setRegistersRow d First
+header : (c : tie.Start) → HeaderRight noWindows setRegistersRow (c .args .d .now) First
 unfolding inGroup valueRules ruleOf valueWrong usesByRow accessOf accessAt rangeWrong
-header d l e = record { some = l; bits = e; value = refl; range = refl; quiet = refl }
-
-good : tie.Need-returns
-good c =
-    let start = c .before .before .before in
-    sym (nothing-said (header _ (start .pre .0 .0) (start .pre .1)) (sym (c .before .pairs-good .ensures) ∙ c .if1 .taken))
-
-bit : tie.Need-returns-2
-bit c =
-    let bits = c .before in
-    let start = bits .before .before .before .before in
-    bits .pair-bits .ensures
-    ∙ sym (bit-says (header _ (start .pre .0 .0) (start .pre .1)) (λ z. c .if2 .taken (bits .pair-bits .ensures ∙ z)))
-
-value : tie.Need-returns-3
-unfolding usesByRow accessOf
-value c =
-    let bits = c .before .before in
-    let start = bits .before .before .before .before in
-    c .pair-values .ensures
-    ∙ sym
-    (value-decides (header _ (start .pre .0 .0) (start .pre .1)) (sym (bits .pair-bits .ensures) ∙ c .before .if2 .left)
-    (no-ranges noWindows setRegistersRow _ refl _ _))
+header c = record { some = c .pre .0 .0; bits = c .pre .1; value = refl; range = refl; quiet = refl }
 
 pub pairs-spec : {M : Type 1} → statement M
+unfolding usesByRow accessOf
 pairs-spec =
-    tie.close (tie.spec (λ c κs. search needs) good (λ c κs. search needs) bit (λ c κs. search needs) value)
+    tie.close
+    (tie.spec (λ c κs. search needs)
+    (λ c. all-clean (header (c .before .before .before)) (c .before .pairs-good .ensures) (c .if1 .taken))
+    (λ c κs. search needs) (λ c. bit-first (header (c .before .before .before .before .before)) (c .before .first-of-pairs .ensures) (c .if2 .taken))
+    (λ c κs. search needs)
+    (λ c.
+    let bits = c .before .before in
+    value-last (header (bits .before .before .before .before)) (bits .first-of-pairs .ensures) (c .before .if2 .left)
+    (c .first-of-pairs2 .ensures) refl))

@@ -1,64 +1,49 @@
--- `plain_mi::type_0::register_and_address` meets its contract: each way out by the tests on the way to it.
+-- `plain_mi::type_0::register_and_address` meets its contract: the header, and then one test after the other.
 -- Assumes nothing.
+use Prim.Native.Nat.{ℕ, _≤_}
+use native.Mathlib.Omega.{arith}
+use mathlib.Core.Path.{_≡_, _∙_}
+use lib.ListN.{length, drop}
 use borrow.Author.Needs.{needs}
-use Rattle.plain_mi.proofs.Tests.{asked}
-use Rattle.plain_mi.proofs.Registers.{register-tested}
+use Rattle.plain_mi.specs.Plain.{registerOf}
+use Rattle.plain_mi.proofs.Tests.{asked, answered, refuses, passes}
+use Rattle.plain_mi.proofs.Whole.{head-fits}
+use Rattle.plain_mi.proofs.Registers.{register-tests, header-says, register-tested}
 use Rattle.plain_mi.proofs.type_0.register_and_address.Statement.{statement}
 use Rattle.plain_mi.proofs.type_0.register_and_address.Tie as tie
 
-bit-1 : tie.Need-returns
-bit-1 c = rw (register-tested _, asked (c .before .before .allowed .ensures) (c .before .if1 .taken)) (c .at .ensures)
+abbrev start : tie.Else1 → tie.Start
+start c = c .before .before .before
 
-bit-2 : tie.Need-returns-2
-bit-2 c =
-    let first-kept = c .before .before .before .before in
-    rw (
-      register-tested _,
-      asked (first-kept .before .allowed .ensures) (first-kept .if1 .left),
-      asked (c .before .before .allowed2 .ensures) (c .before .if2 .taken),
-    ) (c .at2 .ensures)
+fits : (c : tie.Else1) → 4 ≤ length (start c .args .rest .now)
+fits c = omega (arith, head-fits _ (start c .args .header) (c .before .whole-header .ensures) (c .if1 .left), start c .pre .1)
 
-bit-3 : tie.Need-returns-3
-bit-3 c =
-    let second-kept = c .before .before .before .before in
-    let first-kept = second-kept .before .before .before in
-    rw (
-      register-tested _,
-      asked (first-kept .before .allowed .ensures) (first-kept .if1 .left),
-      asked (second-kept .before .allowed2 .ensures) (second-kept .if2 .left),
-      asked (c .before .before .allowed3 .ensures) (c .before .if3 .taken),
-    ) (c .at3 .ensures)
+-- the tests behind the first k of them decide
+abbrev Left : tie.Else1 → ℕ → Type 0
+Left c k = answered (drop k (register-tests (start c .args .rest .now))) 0 ≡ registerOf (start c .args .rest .now) (start c .args .header)
 
-value : tie.Need-returns-4
-value c =
-    let third-kept = c .before .before .before .before in
-    let second-kept = third-kept .before .before .before in
-    let first-kept = second-kept .before .before .before in
-    rw (
-      register-tested _,
-      asked (first-kept .before .allowed .ensures) (first-kept .if1 .left),
-      asked (second-kept .before .allowed2 .ensures) (second-kept .if2 .left),
-      asked (third-kept .before .allowed3 .ensures) (third-kept .if3 .left),
-      asked (c .before .before .known-register .ensures) (c .before .if4 .taken),
-    )
-    (c .at4 .ensures)
+all-left : (c : tie.Else1) → Left c 0
+all-left c = register-tested _ _ (c .before .whole-header .ensures) (c .if1 .left)
 
-nothing : tie.Need-returns-5
-nothing c =
-    let third-kept = c .before .before .before in
-    let second-kept = third-kept .before .before .before in
-    let first-kept = second-kept .before .before .before in
-    rw (
-      register-tested _,
-      asked (first-kept .before .allowed .ensures) (first-kept .if1 .left),
-      asked (second-kept .before .allowed2 .ensures) (second-kept .if2 .left),
-      asked (third-kept .before .allowed3 .ensures) (third-kept .if3 .left),
-      asked (c .before .known-register .ensures) (c .if4 .left),
-    )
+first-kept : (c : tie.Else2) → Left (c .before .before .before) 1
+first-kept c = passes 2561 _ (asked (c .before .allowed .ensures) (c .if2 .left)) (all-left (c .before .before .before))
+
+second-kept : (c : tie.Else3) → Left (c .before .before .before .before .before .before) 2
+second-kept c = passes 2562 _ (asked (c .before .allowed2 .ensures) (c .if3 .left)) (first-kept (c .before .before .before))
+
+third-kept : (c : tie.Else4) → Left (c .before .before .before .before .before .before .before .before .before) 3
+third-kept c = passes 2563 _ (asked (c .before .allowed3 .ensures) (c .if4 .left)) (second-kept (c .before .before .before))
 
 pub register-and-address-spec : {M : Type 1} → statement M
 register-and-address-spec =
     tie.close
-    (tie.spec (λ c. search needs) (λ c κs. search needs) (λ c κs. search needs) bit-1 (λ c. search needs) (λ c κs. search needs)
-    (λ c κs. search needs) bit-2 (λ c. search needs) (λ c κs. search needs) (λ c κs. search needs) bit-3 (λ c. search needs)
-    (λ c κs. search needs) (λ c κs. search needs) value nothing)
+    (tie.spec (λ c κs. search needs) (λ c. header-says _ _ (c .before .whole-header .ensures) (c .if1 .taken))
+    (λ c. omega (arith, fits (c .before))) (λ c κs. search needs) (λ c κs. search needs)
+    (λ c. c .at .ensures ∙ refuses 2561 _ (asked (c .before .before .allowed .ensures) (c .before .if2 .taken)) (all-left (c .before .before .before .before)))
+    (λ c. omega (arith, fits (c .before .before .before .before))) (λ c κs. search needs) (λ c κs. search needs)
+    (λ c. c .at2 .ensures ∙ refuses 2562 _ (asked (c .before .before .allowed2 .ensures) (c .before .if3 .taken)) (first-kept (c .before .before .before .before)))
+    (λ c. omega (arith, fits (c .before .before .before .before .before .before .before))) (λ c κs. search needs) (λ c κs. search needs)
+    (λ c. c .at3 .ensures ∙ refuses 2563 _ (asked (c .before .before .allowed3 .ensures) (c .before .if4 .taken)) (second-kept (c .before .before .before .before)))
+    (λ c. omega (arith, fits (c .before .before .before .before .before .before .before .before .before .before))) (λ c κs. search needs) (λ c κs. search needs)
+    (λ c. c .at4 .ensures ∙ refuses 3073 _ (asked (c .before .before .known-register .ensures) (c .before .if5 .taken)) (third-kept (c .before .before .before .before)))
+    (λ c. passes 3073 _ (asked (c .before .known-register .ensures) (c .if5 .left)) (third-kept (c .before .before .before))))

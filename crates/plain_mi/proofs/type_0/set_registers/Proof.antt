@@ -1,84 +1,35 @@
--- `plain_mi::type_0::set_registers` meets its contract: the field, the end of the command, its header, and its pairs.
+-- `plain_mi::type_0::set_registers` meets its contract: its header, and its pairs.
 -- Assumes nothing.
-use borrow.Author.Needs.{needs}
-use Prim.Native.Nat.{ℕ, _%_, _≤_}
+use Prim.Native.Nat.{ℕ, _+_}
 use native.Mathlib.Omega.{arith}
-use mathlib.Core.Path.{_≡_, refl, sym, _∙_}
+use mathlib.Core.Path.{_≡_, refl}
+use lib.ListN.{getD}
+use borrow.Author.Needs.{needs}
 use Rattle.rules.specs.declared.Level.the-variants.{First}
+use Rattle.rules.specs.Words.{field}
 use Rattle.rules.specs.Commands.{setRegistersRow, rows, theRow, groupSize}
-use Rattle.rules.specs.Masks.{masksOf}
 use Rattle.plain_mi.specs.Plain.{noWindows}
-use Rattle.plain_mi.proofs.OfGroups.{GroupRow, FieldRight, says-length, says-past, own-length, says-content, own-groups, header-kept, says-header}
+use Rattle.plain_mi.proofs.OfGroups.{GroupRow, OwnGroups, groups-refuse, own-groups}
 use Rattle.plain_mi.proofs.type_0.set_registers.Statement.{statement}
 use Rattle.plain_mi.proofs.type_0.set_registers.Tie as tie
 
 of-pairs : GroupRow setRegistersRow 2 64 0x110000
-unfolding rows theRow groupSize masksOf
+unfolding rows theRow groupSize
 of-pairs = record { total = refl; of-size = refl; key = refl; mask = refl; known = omega arith }
 
-pairs-right : (f : ℕ) → f % 2 ≡ 1 → f ≤ 127 → FieldRight 2 64 f
-pairs-right f e l = (omega arith, omega arith, omega arith)
+abbrev start : tie.Else1 → tie.Start
+start c = c .before .before .before
 
-uneven : tie.Need-returns
-uneven c =
-    let start = c .before .before .before .before in
-    c .at .ensures ∙ says-length of-pairs noWindows (start .args .rest .now) First (start .pre .1)
-    (λ a b. c .before .if1 .taken (omega arith))
-
-too-many : tie.Need-returns-2
-too-many c =
-    let start = c .before .before .before .before .before in
-    c .at2 .ensures ∙ says-length of-pairs noWindows (start .args .rest .now) First (start .pre .1)
-    (λ a b. let t = c .before .if2 .taken in omega (arith, t))
-
-past : tie.Need-returns-3
-past c =
-    let fits = c .before .before in
-    let start = fits .before .before .before .before in
-    c .at3 .ensures
-    ∙ says-past of-pairs noWindows (start .args .rest .now) First (start .pre .1)
-    (pairs-right _ (fits .before .if1 .left) (fits .if2 .left)) (c .before .if3 .taken)
-
-header : tie.Need-returns-4
-header c =
-    let whole = c .before .before in
-    let fits = whole .before in
-    let start = fits .before .before .before .before in
-    c .at4 .ensures
-    ∙ says-header of-pairs noWindows (start .args .rest .now) First (start .pre .1)
-    (pairs-right _ (fits .before .if1 .left) (fits .if2 .left)) (whole .if3 .left)
-    (c .before .if4 .taken)
-
-own : tie.Need-slice-aggregate-pairs
-own c =
-    let whole = c .before .before in
-    let fits = whole .before in
-    let start = fits .before .before .before .before in
-    sym (own-length of-pairs noWindows (start .args .rest .now) First (start .pre .1)
-    (pairs-right _ (fits .before .if1 .left) (fits .if2 .left)) (whole .if3 .left))
-
-pairs-requires : tie.Need-pairs-requires
-pairs-requires c κs =
-    let whole = c .before .before in
-    let fits = whole .before in
-    let start = fits .before .before .before .before in
-    let right = pairs-right _ (fits .before .if1 .left) (fits .if2 .left) in (
-      own-groups of-pairs noWindows (start .args .rest .now) First (start .pre .1) right (whole .if3 .left),
-      header-kept of-pairs noWindows (start .args .rest .now) First (start .pre .1) right (whole .if3 .left) (c .before .if4 .left),
-    )
-
-said : tie.Need-returns-5
-said c =
-    let whole = c .before .before .before in
-    let fits = whole .before in
-    let start = fits .before .before .before .before in
-    c .pairs .ensures
-    ∙ says-content of-pairs noWindows (start .args .rest .now) First (start .pre .1)
-    (pairs-right _ (fits .before .if1 .left) (fits .if2 .left)) (whole .if3 .left)
+own : (c : tie.Else1) {n : ℕ} → n ≡ field (getD (start c .args .rest .now) 0 0) 7 0 + 2
+    → OwnGroups noWindows setRegistersRow 2 (start c .args .rest .now) First n
+own c l = own-groups of-pairs noWindows _ First (c .before .groups-header .ensures) (c .if1 .left) l
 
 pub set-registers-spec : {M : Type 1} → statement M
 set-registers-spec =
     tie.close
-    (tie.spec (λ c. search needs) (λ c κs. search needs) uneven (λ c κs. search needs) too-many (λ c. search needs)
-    (λ c. search needs)
-    (λ c κs. search needs) past (λ c. search needs) (λ c κs. search needs) header own pairs-requires said)
+    (tie.spec (λ c κs. search needs)
+    (λ c. groups-refuse of-pairs noWindows _ First (c .before .groups-header .ensures) (c .before .before .before .pre .1) (c .if1 .taken))
+    (λ c. search needs) (λ c κs. search needs)
+    (λ c. own (c .before .before .before) (c .before .length-by-field .ensures) .long)
+    (λ c κs. own (c .before .before .before) (c .before .length-by-field .ensures) .right)
+    (λ c. own (c .before .before .before .before) (c .before .before .length-by-field .ensures) .says (c .pairs .ensures)))

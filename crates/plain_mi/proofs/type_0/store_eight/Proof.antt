@@ -1,82 +1,49 @@
 -- `plain_mi::type_0::store_eight` meets its contract, by the laws of row 4.
 -- Assumes nothing.
-use mathlib.Core.Path.{ap, _∙_}
+use Prim.Native.Nat.{ℕ}
+use mathlib.Core.Path.{_≡_, ap, _∙_}
 use mathlib.Core.Bool.{not}
+use lib.ListN.{drop}
 use borrow.Author.Needs.{needs}
 use borrow.Author.Tests.{eq-eqb, ne-eqb}
-use Rattle.plain_mi.proofs.Tests.{asked, answers, own-past, own-answer}
+use Rattle.rules.specs.declared.Level.the-variants.{First}
+use Rattle.rules.specs.Commands.{storeRow}
+use Rattle.plain_mi.specs.Plain.{wrongOf}
+use Rattle.plain_mi.proofs.Tests.{asked, answered, refuses, passes, own-past}
 use Rattle.plain_mi.proofs.Fitting.{scratch-holds}
-use Rattle.plain_mi.proofs.Stores.{eight-bytes, bits-refuse, bits-pass}
+use Rattle.plain_mi.proofs.Stores.{Store, eight-tests, eight-bytes, bits-refuse, bits-pass}
 use Rattle.plain_mi.proofs.type_0.store_eight.Statement.{statement}
 use Rattle.plain_mi.proofs.type_0.store_eight.Tie as tie
 
-past : tie.Need-returns
-past c =
-    let known = c .before .before in
-    let start = known .before in
-    let own = eight-bytes (start .args .w) (start .args .rest .now) (start .pre .1) (known .shared-slice-known .given 3 .fits)
-    (known .shared-slice-known .given 4 .fits) in
-    c .at .ensures
-    ∙ own-past own (c .before .if1 .taken)
+own : (c : tie.After-shared-slice-known) → let s = c .before in let d = s .args .rest .now in
+    Store (s .args .w) d 5 (answered (eight-tests (s .args .w) d) 0)
+own c = let given = c .shared-slice-known .given in eight-bytes _ _ (c .before .pre .1) (given 3 .fits) (given 4 .fits)
 
-wrong-bit : tie.Need-returns-2
-wrong-bit c =
-    let inside = c .before .before in
-    let known = inside .before in
-    let start = known .before in
-    let own = eight-bytes (start .args .w) (start .args .rest .now) (start .pre .1) (known .shared-slice-known .given 3 .fits)
-    (known .shared-slice-known .given 4 .fits) in
-    bits-refuse _ (c .before .store-bit .ensures) _ (c .if2 .taken)
-    ∙ own-answer own (inside .if1 .left)
+-- the tests behind the first k of them decide
+abbrev Left : tie.Start → ℕ → Type 0
+Left s k = let d = s .args .rest .now in answered (drop k (eight-tests (s .args .w) d)) 0 ≡ wrongOf (s .args .w) storeRow d First
 
-unaligned : tie.Need-returns-3
-unaligned c =
-    let kept = c .before .before .before in
-    let inside = kept .before .before in
-    let known = inside .before in
-    let start = known .before in
-    let own = eight-bytes (start .args .w) (start .args .rest .now) (start .pre .1) (known .shared-slice-known .given 3 .fits)
-    (known .shared-slice-known .given 4 .fits) in
-    c .at2 .ensures
-    ∙ answers 3073 _ (ap not (ne-eqb _ 0 (c .before .if3 .taken)))
-    ∙ bits-pass _ (kept .before .store-bit .ensures) _ (kept .if2 .left)
-    ∙ own-answer own (inside .if1 .left)
+kept : (c : tie.Else2) → Left (c .before .before .before .before) 0
+kept c = let inside = c .before .before in bits-pass _ (own (inside .before)) (inside .if1 .left) (c .before .store-bit .ensures) (c .if2 .left)
 
-outside : tie.Need-returns-4
-outside c =
-    let fit = c .before .before in
-    let aligned = fit .before .before .before .before in
-    let kept = aligned .before .before in
-    let inside = kept .before .before in
-    let known = inside .before in
-    let start = known .before in
-    let own = eight-bytes (start .args .w) (start .args .rest .now) (start .pre .1) (known .shared-slice-known .given 3 .fits)
-    (known .shared-slice-known .given 4 .fits) in
-    let fitting = scratch-holds (start .args .w) 8 (fit .before .address-of .ensures) (fit .holds .ensures) in
-    c .at3 .ensures
-    ∙ answers 3329 0 (asked fitting (c .before .if4 .taken))
-    ∙ answers 3073 _ (ap not (eq-eqb _ 0 (aligned .if3 .left)))
-    ∙ bits-pass _ (kept .before .store-bit .ensures) _ (kept .if2 .left)
-    ∙ own-answer own (inside .if1 .left)
-
-nothing : tie.Need-returns-5
-nothing c =
-    let fit = c .before in
-    let aligned = fit .before .before .before .before in
-    let kept = aligned .before .before in
-    let inside = kept .before .before in
-    let known = inside .before in
-    let start = known .before in
-    let own = eight-bytes (start .args .w) (start .args .rest .now) (start .pre .1) (known .shared-slice-known .given 3 .fits)
-    (known .shared-slice-known .given 4 .fits) in
-    let fitting = scratch-holds (start .args .w) 8 (fit .before .address-of .ensures) (fit .holds .ensures) in
-    answers 3329 0 (asked fitting (c .if4 .left))
-    ∙ answers 3073 _ (ap not (eq-eqb _ 0 (aligned .if3 .left)))
-    ∙ bits-pass _ (kept .before .store-bit .ensures) _ (kept .if2 .left)
-    ∙ own-answer own (inside .if1 .left)
+aligned : (c : tie.Else3) → Left (c .before .before .before .before .before .before) 1
+aligned c = passes 3073 _ (ap not (eq-eqb _ _ (c .if3 .left))) (kept (c .before .before))
 
 pub store-eight-spec : {M : Type 1} → statement M
 store-eight-spec =
     tie.close
-    (tie.spec (λ c κs. search needs) past (λ c κs. search needs) wrong-bit (λ c. search needs) (λ c κs. search needs) unaligned
-    (λ c. search needs) (λ c. search needs) (λ c κs. search needs) (λ c κs. search needs) (λ c κs. search needs) outside nothing)
+    (tie.spec (λ c κs. search needs) (λ c. c .at .ensures ∙ own-past (own (c .before .before)) (c .before .if1 .taken))
+    (λ c κs. search needs)
+    (λ c. let inside = c .before .before in bits-refuse _ (own (inside .before)) (inside .if1 .left) (c .before .store-bit .ensures) (c .if2 .taken))
+    (λ c. search needs) (λ c κs. search needs)
+    (λ c. c .at2 .ensures ∙ refuses 3073 _ (ap not (ne-eqb _ _ (c .before .if3 .taken))) (kept (c .before .before .before)))
+    (λ c. search needs) (λ c. search needs) (λ c κs. search needs) (λ c κs. search needs) (λ c κs. search needs)
+    (λ c.
+    let fit = c .before .before in
+    c .at3 .ensures
+    ∙ refuses 3329 0 (asked (scratch-holds _ 8 (fit .before .address-of .ensures) (fit .holds .ensures)) (c .before .if4 .taken))
+    (aligned (fit .before .before .before .before)))
+    (λ c.
+    let fit = c .before in
+    passes 3329 0 (asked (scratch-holds _ 8 (fit .before .address-of .ensures) (fit .holds .ensures)) (c .if4 .left))
+    (aligned (fit .before .before .before .before))))

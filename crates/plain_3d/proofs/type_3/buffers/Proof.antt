@@ -1,0 +1,36 @@
+-- `plain_3d::type_3::buffers` meets its contract: nothing is wrong with any buffer, or the first 10 says so, else 12, else 13.
+-- Assumes nothing.
+use borrow.Author.Needs.{needs}
+use mathlib.Core.Path.{refl}
+use Rattle.rules.specs.declared.Level.the-variants.{First}
+use Rattle.rules.specs.Commands.{vertexBuffersRow}
+use Rattle.rules.specs.Words.{inGroup}
+use Rattle.rules.specs.Uses.{usesByRow, accessOf, accessAt}
+use Rattle.rules.specs.Values.{valueRules, ruleOf, valueWrong}
+use Rattle.rules.specs.Addresses.{rangeWrong}
+use Rattle.plain_mi.proofs.Content.{HeaderRight, all-clean, bit-first, value-first, range-last}
+use Rattle.plain_3d.proofs.type_3.buffers.Statement.{statement}
+use Rattle.plain_3d.proofs.type_3.buffers.Tie as tie
+
+header : (c : tie.Start) → HeaderRight (c .args .w) vertexBuffersRow (c .args .d .now) First
+unfolding inGroup valueRules ruleOf valueWrong usesByRow accessOf accessAt rangeWrong
+header c = record { some = c .pre .0 .0; bits = c .pre .1; value = refl; range = refl; quiet = refl }
+
+pub buffers-spec : {M : Type 1} → statement M
+buffers-spec =
+    tie.close
+    (tie.spec (λ c κs. search needs)
+    (λ c. all-clean (header (c .before .before .before)) (c .before .buffers-good .ensures) (c .if1 .taken))
+    (λ c κs. search needs)
+    (λ c. bit-first (header (c .before .before .before .before .before)) (c .before .first-of-buffers .ensures) (c .if2 .taken))
+    (λ c κs. search needs)
+    (λ c.
+    let bits = c .before .before .before in
+    value-first (header (bits .before .before .before .before)) (bits .first-of-buffers .ensures) (c .before .before .if2 .left)
+    (c .before .first-of-buffers2 .ensures) (c .if3 .taken))
+    (λ c κs. search needs)
+    (λ c.
+    let values = c .before .before in
+    let bits = values .before .before in
+    range-last (header (bits .before .before .before .before)) (bits .first-of-buffers .ensures) (values .before .if2 .left)
+    (values .first-of-buffers2 .ensures) (c .before .if3 .left) (c .first-of-buffers3 .ensures)))

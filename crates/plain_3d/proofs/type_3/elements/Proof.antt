@@ -1,0 +1,33 @@
+-- `plain_3d::type_3::elements` meets its contract: nothing is wrong with any element, or the first 10 says so, else the first 12.
+-- Assumes nothing.
+use borrow.Author.Needs.{needs}
+use native.Mathlib.Omega.{arith}
+use mathlib.Core.Path.{refl, sym, _∙_}
+use Rattle.rules.specs.declared.Level.the-variants.{First}
+use Rattle.rules.specs.Commands.{vertexElementsRow}
+use Rattle.rules.specs.Words.{inGroup}
+use Rattle.rules.specs.Uses.{usesByRow, accessOf, accessAt}
+use Rattle.rules.specs.Values.{valueRules, ruleOf, valueWrong}
+use Rattle.rules.specs.Addresses.{rangeWrong}
+use Rattle.plain_mi.specs.Plain.{noWindows}
+use Rattle.plain_mi.proofs.Content.{HeaderRight, all-clean, bit-first, value-last}
+use Rattle.plain_3d.proofs.type_3.elements.Statement.{statement}
+use Rattle.plain_3d.proofs.type_3.elements.Tie as tie
+
+header : (c : tie.Start) → HeaderRight noWindows vertexElementsRow (c .args .d .now) First
+unfolding inGroup valueRules ruleOf valueWrong usesByRow accessOf accessAt rangeWrong
+header c = record { some = c .pre .0 .0; bits = c .pre .1; value = refl; range = refl; quiet = refl }
+
+pub elements-spec : {M : Type 1} → statement M
+unfolding usesByRow accessOf
+elements-spec =
+    tie.close
+    (tie.spec (λ c κs. search needs)
+    (λ c. all-clean (header (c .before .before .before)) (c .before .elements-good .ensures) (c .if1 .taken))
+    (λ c κs. (c .before .before .before .pre .0, λ v. absurd (omega arith)))
+    (λ c. bit-first (header (c .before .before .before .before .before)) (c .before .first-of-elements .ensures) (c .if2 .taken))
+    (λ c κs. (c .before .before .before .before .before .pre .0, λ v. sym (c .before .first-of-elements .ensures) ∙ c .if2 .left))
+    (λ c.
+    let bits = c .before .before in
+    value-last (header (bits .before .before .before .before)) (bits .first-of-elements .ensures) (c .before .if2 .left)
+    (c .first-of-elements2 .ensures) refl))

@@ -1,3 +1,0 @@
-pub mod FormatWords
-pub mod Controls
-pub mod BufferRanges
