@@ -1,5 +1,6 @@
 /*
- * What each proved engine costs beside the second opinion, and beside the fast checker in C, on the same captures in one run.
+ * What each proved engine costs beside the second opinion, and beside the fast checker in C, on the same captures in one run; and the reader of
+ * files beside the one in C.
  *   bench ROUNDS ROOM        instructions of each call, counted by the trap flag, and the least time of ROUNDS short rounds, or no
  *                            time if that is 0; ROOM is for how many records: it cuts the loop short, and nothing else if it
  *                            is at least 4,096
@@ -145,6 +146,29 @@ static const struct engine {
     check_call *check;
 } engines[] = {{"plain", lungevati_check}, {"table", lungevati_check_table}};
 
+/* The reader of files, in the form of a check, so that it is counted in the same way: it reads the largest file, and counts what it fills. */
+enum { FILE_BYTES = 32808, TRAILER_BYTES = 40 };
+static uint8_t file[FILE_BYTES];
+static uint32_t filled[2][LIMIT];
+
+static void make_file(void)
+{
+    const uint32_t trailer[] = {(uint32_t)BATCH_AT, 0, (uint32_t)STATE_AT, 0, (uint32_t)SCRATCH_AT, 0, SCRATCH_LEN, LIMIT, LIMIT, FILE_BYTES};
+    for (uint32_t i = 0; i < FILE_BYTES - TRAILER_BYTES; i++) file[i] = (uint8_t)(i * 7);
+    for (uint32_t i = 0; i < TRAILER_BYTES; i++) file[FILE_BYTES - TRAILER_BYTES + i] = (uint8_t)(trailer[i / 4] >> 8 * (i % 4));
+}
+
+#define READING(name, read)                                                                                                        \
+    static struct lungevati_answer name(const uint32_t *b, size_t bl, uint64_t ba, const uint32_t *s, size_t sl, uint64_t sa, uint64_t ca, \
+                                        uint32_t cl, uint32_t *r, size_t rl)                                                       \
+    {                                                                                                                              \
+        (void)b, (void)bl, (void)ba, (void)s, (void)sl, (void)sa, (void)ca, (void)cl, (void)r, (void)rl;                           \
+        struct lungevati_contents c = read(file, FILE_BYTES, filled[0], LIMIT, filled[1], LIMIT);                                  \
+        return (struct lungevati_answer){c.reason, c.window, c.index, c.batch_count + c.state_count};                              \
+    }
+READING(proved_reading, lungevati_read)
+READING(other_reading, other_read)
+
 static volatile uint32_t sink;
 
 static struct lungevati_answer ask(check_call *check)
@@ -209,12 +233,17 @@ static double time_ratio(check_call *check, check_call *beside, uint64_t rounds,
 
 /* ---- The table ---- */
 
-static int same_answers(const char *who, check_call *check, const char *name, uint64_t *count, uint64_t *dwords)
+static uint64_t dwords_of(uint32_t commands)
 {
-    struct lungevati_answer p = ask(check), o = ask(other_check);
+    uint64_t dwords = 0;
+    for (uint32_t i = 0; i < commands; i++) dwords += records[i] >> 16 & 0xFF;
+    return dwords;
+}
+
+static int same_answers(const char *who, check_call *check, check_call *beside, const char *name, uint64_t *count)
+{
+    struct lungevati_answer p = ask(check), o = ask(beside);
     *count = o.count;
-    *dwords = 0;
-    for (uint32_t i = 0; i < o.count; i++) *dwords += records[i] >> 16 & 0xFF;
     if (p.reason == o.reason && p.window == o.window && p.index == o.index && p.count == o.count && o.count > 0) return 1;
     printf("%s, %s: %u %u %u %u, C %u %u %u %u\n", who, name, p.reason, p.window, p.index, p.count, o.reason, o.window, o.index,
            o.count);
@@ -234,28 +263,58 @@ static void print_head(uint64_t rounds)
            "engine", "capture", rounds ? " | to C  to fast  proved ns" : "");
 }
 
-/* One engine on the capture that stands. */
-static int measure(const struct engine *engine, const char *name, struct counts in_c, uint64_t rounds)
+/* What is done with the capture that stands: its commands and dwords. */
+struct work {
+    const char *name;
+    uint64_t commands, dwords;
+};
+
+/* One engine on the capture that stands, or the reader. */
+static void measure(const struct engine *engine, check_call *beside, check_call *fast, struct work w, struct counts in_c, uint64_t rounds)
 {
-    uint64_t count, dwords;
-    if (!same_answers(engine->name, engine->check, name, &count, &dwords)) return 0;
     double p = (double)instructions(engine->check), c = in_c.c, f = in_c.fast;
-    double n = (double)count, d = (double)dwords;
-    printf("%-8s %-16s %8.0f %7.0f | %9.0f %9.0f %6.3f %9.0f %6.3f | %8.2f %8.2f %8.2f | %7.2f %7.2f %7.2f", engine->name, name, n, d, p, c,
+    double n = (double)w.commands, d = (double)w.dwords;
+    printf("%-8s %-16s %8.0f %7.0f | %9.0f %9.0f %6.3f %9.0f %6.3f | %8.2f %8.2f %8.2f | %7.2f %7.2f %7.2f", engine->name, w.name, n, d, p, c,
            p / c, f, p / f, p / n, c / n, f / n, p / d, c / d, f / d);
     if (rounds) {
-        double proved_time, to_c = time_ratio(engine->check, other_check, rounds, &proved_time);
-        double to_fast = time_ratio(engine->check, fast_check, rounds, &proved_time);
+        double proved_time, to_c = time_ratio(engine->check, beside, rounds, &proved_time);
+        double to_fast = time_ratio(engine->check, fast, rounds, &proved_time);
         printf(" | %6.3f %6.3f %10.0f", to_c, to_fast, proved_time);
     }
     printf("\n");
+}
+
+/* All checkers on the capture that stands. */
+static int measure_engines(const char *name, uint64_t rounds)
+{
+    struct work w = {name, 0, 0};
+    if (!same_answers("fast", fast_check, other_check, name, &w.commands)) return 0;
+    w.dwords = dwords_of((uint32_t)w.commands);
+    struct counts in_c = {(double)instructions(other_check), (double)instructions(fast_check)};
+    for (uint32_t e = 0; e < sizeof engines / sizeof engines[0]; e++) {
+        if (!same_answers(engines[e].name, engines[e].check, other_check, name, &w.commands)) return 0;
+        measure(&engines[e], other_check, fast_check, w, in_c, rounds);
+    }
+    return 1;
+}
+
+/* The reader on the largest file. The fast checker has no reader, so the one in C stands for it too. */
+static int measure_reader(uint64_t rounds)
+{
+    const struct engine reader = {"reader", proved_reading};
+    struct work w = {"the largest file", 0, 0};
+    make_file();
+    if (!same_answers(reader.name, proved_reading, other_reading, w.name, &w.commands)) return 0;
+    w.dwords = w.commands;
+    double c = (double)instructions(other_reading);
+    measure(&reader, other_reading, other_reading, w, (struct counts){c, c}, rounds);
     return 1;
 }
 
 int main(int n, char **v)
 {
     if (n != 3) return printf("usage: bench ROUNDS ROOM\n"), 2;
-    uint64_t rounds = strtoul(v[1], 0, 10), count, dwords;
+    uint64_t rounds = strtoul(v[1], 0, 10);
     room = strtoul(v[2], 0, 10);
     if (room > BUDGET) room = BUDGET;
     signal(SIGTRAP, step);
@@ -263,10 +322,7 @@ int main(int n, char **v)
     for (uint32_t i = 0; i < sizeof captures / sizeof captures[0]; i++) {
         batch_len = 0;
         captures[i].make();
-        if (!same_answers("fast", fast_check, captures[i].name, &count, &dwords)) return 1;
-        struct counts in_c = {(double)instructions(other_check), (double)instructions(fast_check)};
-        for (uint32_t e = 0; e < sizeof engines / sizeof engines[0]; e++)
-            if (!measure(&engines[e], captures[i].name, in_c, rounds)) return 1;
+        if (!measure_engines(captures[i].name, rounds)) return 1;
     }
-    return 0;
+    return !measure_reader(rounds);
 }

@@ -1,2 +1,4 @@
 pub mod Putting
+pub mod Pieces
+pub mod Hexadecimal
 pub mod Unique

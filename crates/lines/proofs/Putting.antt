@@ -4,10 +4,10 @@ use Prim.Native.Nat.{ℕ, zero, suc, _+_, _-_, _/_, _%_, _<_, _≤_}
 use native.Mathlib.Nat.{add-zero, zero-add}
 use native.Mathlib.Numerals.{add-one}
 use native.Mathlib.Omega.{arith}
-use mathlib.Core.Path.{_≡_, refl, _∙_}
+use mathlib.Core.Path.{_≡_, refl, sym, ap, _∙_}
 use mathlib.Core.List.{List, [], _∷_, _++_}
-use lib.ListN.{length, getD, drop, set, length-append, length-set, drop-of-length-le}
-use lib.Seq.{sets, sets-eq, drop-cons}
+use lib.ListN.{length, getD, take, drop, set, length-append, length-set, drop-of-length-le}
+use lib.Seq.{sets, sets-eq, drop-cons, take-at}
 use borrow.Author.Tests.{lt-ltb, le-ltb}
 use Rattle.rules.specs.Printout.{digitsOf}
 use Rattle.lines.specs.Lines.{Put, Line}
@@ -91,3 +91,11 @@ whole {line = line} {old = old} h p = record {
   counts = omega (arith, p .ends);
   written = p .written ∙ sets-eq line old 0 (omega (arith, p .short)) ∙ rw zero-add;
 }
+
+-- what stands at the front of the buffer is the line
+module _ {line old new : List ℕ} {r : ℕ} where
+  pub line-within : Line line old r new → r ≤ length new
+  line-within l = omega (arith, l .counts, ap length (l .written), length-append line (drop (length line) old))
+
+  pub line-front : Line line old r new → take r new ≡ line
+  line-front l = ap (take r) (l .written) ∙ take-at line (drop (length line) old) r (sym (l .counts))

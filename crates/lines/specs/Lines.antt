@@ -16,3 +16,7 @@ pub record Line (bytes old : List ℕ) (count : ℕ) (new : List ℕ) : Type 0 w
   pub fits : count ≤ length old
   pub counts : count ≡ length bytes
   pub written : new ≡ bytes ++ drop (length bytes) old
+
+-- how many bytes the name of a file has at most, as it is shown
+abbrev pub nameBytes : ℕ
+nameBytes = 16384

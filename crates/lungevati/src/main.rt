@@ -1,6 +1,13 @@
 // Prints document 01's printout of each capture that an argument names, or of the one on standard input.
+ghost use mathlib.Core.Path.{_≡_};
+ghost use Prim.Native.Nat.{_≤_};
+ghost use lib.ListN.{length};
+ghost use Rattle.lines.specs.Lines.{nameBytes};
+use libc::STDERR_FILENO;
 use libc::STDIN_FILENO;
 use libc::STDOUT_FILENO;
+use lines::NAME_BYTES;
+use lines::put_text;
 use reports::ACCEPTED;
 use reports::MOST_BYTES;
 use reports::REFUSED;
@@ -8,40 +15,83 @@ use reports::UNREAD;
 use reports::worse;
 use rules::Answer;
 
+// The status of a run whose output could not be written: nothing is read after it.
+const UNWRITTEN: u8 = 3;
+
+// How many bytes of lines are gathered before they are written: a capture of 4,096 commands takes two pages.
+const PAGE_BYTES: usize = 32768;
+
+// How an input ended: all of it was read, or it grew meanwhile, or a read failed.
+enum Ending {
+    Whole,
+    Changed,
+    Failed,
+}
+
+// So many bytes of an input, and how it ended.
+struct Input {
+    count: usize,
+    ending: Ending,
+}
+
+// Writes to standard output, and says why if that cannot be done.
+fn write_out(text: &[u8]) -> bool {
+    if io::write_all(STDOUT_FILENO, text) {
+        return true;
+    }
+    os::fail(b"lungevati: the output could not be written");
+    false
+}
+
+// Writes the front of a page.
+fn write_page(page: &[u8], end: usize) -> bool
+    requires { ⌜ end ≤ length (now page) ⌝ }
+{
+    write_out(&page[..end])
+}
+
 fn print_answer(answer: Answer) -> bool {
     let mut line = [0u8; 128];
     let n = printout::answer_line(&mut line, answer);
-    io::write_all(STDOUT_FILENO, &line[..n])
+    write_out(&line[..n])
 }
 
-fn print_record(word: u32) -> bool {
-    let mut line = [0u8; 128];
-    let n = printout::record_line(&mut line, word);
-    io::write_all(STDOUT_FILENO, &line[..n])
-}
-
-fn print_records(records: &[u32], count: usize) -> bool {
+// Prints the line of each record.
+fn print_records(page: &mut [u8; PAGE_BYTES], records: &[u32]) -> bool {
     let mut i = 0;
-    while i < count && i < records.len() {
-        if !print_record(records[i]) {
+    while i < records.len() {
+        let gathered = printout::record_lines(page, &records[i..]);
+        if !write_page(page, gathered.bytes) {
             return false;
         }
-        i += 1;
+        i += gathered.lines;
     }
     true
 }
 
-// Prints the answer for a file and its records, and answers its status.
-fn print_judgement(file: &[u8]) -> u8 {
-    let mut batch = [0u32; 4096];
-    let mut state = [0u32; 4096];
-    let mut records = [0u32; 4096];
-    let answer = capture::judge(file, &mut batch, &mut state, &mut records);
-    if !print_answer(answer) {
-        return UNREAD;
+// The first of the record words, as many as are told.
+fn told(records: &[u32], count: usize) -> &[u32] {
+    if count < records.len() {
+        &records[..count]
+    } else {
+        records
     }
-    if !print_records(&records, answer.count as usize) {
-        return UNREAD;
+}
+
+// Prints the answer for a file and its records, and answers its status.
+fn print_judgement(
+    page: &mut [u8; PAGE_BYTES],
+    batch: &mut [u32; 4096],
+    state: &mut [u32; 4096],
+    records: &mut [u32; 4096],
+    file: &[u8],
+) -> u8 {
+    let answer = capture::judge(file, batch, state, records);
+    if !print_answer(answer) {
+        return UNWRITTEN;
+    }
+    if !print_records(page, told(records, answer.count as usize)) {
+        return UNWRITTEN;
     }
     if answer.reason == 0 {
         ACCEPTED
@@ -51,70 +101,261 @@ fn print_judgement(file: &[u8]) -> u8 {
 }
 
 // The line above the printout of a file among several.
-fn print_name(name: &[u8]) -> bool {
-    io::write_all(STDOUT_FILENO, b"file ")
-        & io::write_all(STDOUT_FILENO, name)
-        & io::write_all(STDOUT_FILENO, b"\n")
+fn print_name(page: &mut [u8; PAGE_BYTES], name: &[u8]) -> bool
+    requires { ⌜ length (now name) ≤ nameBytes ⌝ }
+{
+    let start = put_text(page, 0, b"file ");
+    let end = put_text(page, start, name);
+    let behind = put_text(page, end, b"\n");
+    write_page(page, behind)
 }
 
-// Whether an input has ended: only a read that gives nothing shows it.
-fn at_end(fd: i32) -> bool {
+// Says that an input was not read, and why, by the system's last error.
+fn complain(name: &[u8]) {
+    io::write_all(STDERR_FILENO, b"lungevati: ");
+    os::fail(name);
+}
+
+// Says that an input changed.
+fn complain_of_change(name: &[u8]) {
+    io::write_all(STDERR_FILENO, b"lungevati: ");
+    io::write_all(STDERR_FILENO, name);
+    io::write_all(STDERR_FILENO, b": it changed while it was read\n");
+}
+
+// Reads until an input ends, the buffer is full, or a read fails.
+fn fill(fd: i32, bytes: &mut [u8]) -> Input
+    ensures { λ r. ⌜ r .count ≤ length (now (bytes .exit)) ⌝ }
+{
+    let mut n = 0;
+    while n < bytes.len() {
+        let got = libc::read(fd, &mut bytes[n..]);
+        if got < 0 {
+            return Input {
+                count: n,
+                ending: Ending::Failed,
+            };
+        }
+        let more = io::count(got, &bytes[n..]);
+        if more == 0 {
+            return Input {
+                count: n,
+                ending: Ending::Whole,
+            };
+        }
+        n += more;
+    }
+    Input {
+        count: n,
+        ending: Ending::Whole,
+    }
+}
+
+// Whether an input goes on behind its end, since it has grown. A terminal is not asked: it would wait for a second end.
+fn goes_on(fd: i32) -> bool {
+    if libc::isatty(fd) != 0 {
+        return false;
+    }
     let mut byte = [0u8; 1];
-    libc::read(fd, &mut byte) == 0
+    libc::read(fd, &mut byte) > 0
 }
 
-// The answer for an open input, which is shown by its name. A longer file than any capture is not read further.
-fn answer_input(fd: i32, name: &[u8], among_several: bool) -> u8 {
-    let mut bytes = [0u8; MOST_BYTES];
-    let n = io::read_full(fd, &mut bytes);
-    if n < MOST_BYTES && !at_end(fd) {
-        os::fail(name);
-        return UNREAD;
+// Reads an input to its end. A longer one than any capture is not read further.
+fn read_input(fd: i32, bytes: &mut [u8]) -> Input
+    ensures { λ r. ⌜ r .count ≤ length (now (bytes .exit)) ⌝ }
+{
+    let input = fill(fd, bytes);
+    let count = input.count;
+    if count == bytes.len() {
+        return input;
     }
-    if among_several && !print_name(name) {
-        return UNREAD;
+    let ending = input.ending;
+    match ending {
+        Ending::Failed => input,
+        _ => Input {
+            count,
+            ending: if goes_on(fd) {
+                Ending::Changed
+            } else {
+                Ending::Whole
+            },
+        },
     }
-    print_judgement(&bytes[..n])
 }
 
-fn answer_file(name: &mut [u8], among_several: bool) -> u8 {
+// The answer for the bytes of an input, which is shown by its name.
+fn answer_bytes(
+    page: &mut [u8; PAGE_BYTES],
+    batch: &mut [u32; 4096],
+    state: &mut [u32; 4096],
+    records: &mut [u32; 4096],
+    file: &[u8],
+    name: &[u8],
+    among_several: bool,
+) -> u8
+    requires { ⌜ length (now name) ≤ nameBytes ⌝ }
+{
+    if among_several && !print_name(page, name) {
+        return UNWRITTEN;
+    }
+    print_judgement(page, batch, state, records, file)
+}
+
+// The answer for an open input.
+fn answer_input(
+    page: &mut [u8; PAGE_BYTES],
+    batch: &mut [u32; 4096],
+    state: &mut [u32; 4096],
+    records: &mut [u32; 4096],
+    bytes: &mut [u8],
+    fd: i32,
+    name: &[u8],
+    among_several: bool,
+) -> u8
+    requires { ⌜ length (now name) ≤ nameBytes ⌝ }
+{
+    let input = read_input(fd, bytes);
+    let count = input.count;
+    let ending = input.ending;
+    match ending {
+        Ending::Failed => {
+            complain(name);
+            UNREAD
+        }
+        Ending::Changed => {
+            complain_of_change(name);
+            UNREAD
+        }
+        Ending::Whole => answer_bytes(
+            page,
+            batch,
+            state,
+            records,
+            &bytes[..count],
+            name,
+            among_several,
+        ),
+    }
+}
+
+// The first n bytes.
+fn front(bytes: &[u8], n: usize) -> &[u8]
+    requires { ⌜ n ≤ length (now bytes) ⌝ }
+    ensures { λ r. ⌜ length (now r) ≡ n ⌝ }
+{
+    &bytes[..n]
+}
+
+fn answer_file(
+    page: &mut [u8; PAGE_BYTES],
+    text: &mut [u8; NAME_BYTES],
+    batch: &mut [u32; 4096],
+    state: &mut [u32; 4096],
+    records: &mut [u32; 4096],
+    bytes: &mut [u8],
+    name: &[u8],
+    among_several: bool,
+) -> u8
+    requires { ⌜ length (now name) ≤ 4096 ⌝ }
+{
     let fd = os::open_read(name);
-    reports::plain(name);
+    let n = names::shown(name, text);
+    let shown = front(text, n);
     if fd < 0 {
-        os::fail(name);
+        complain(shown);
         return UNREAD;
     }
-    let status = answer_input(fd, name, among_several);
+    let status = answer_input(page, batch, state, records, bytes, fd, shown, among_several);
     libc::close(fd);
     status
 }
 
 // An argument that is longer than any path fills the buffer, and no path is as long as that.
-fn answer_argument(i: usize, among_several: bool) -> u8 {
+fn answer_argument(
+    page: &mut [u8; PAGE_BYTES],
+    text: &mut [u8; NAME_BYTES],
+    batch: &mut [u32; 4096],
+    state: &mut [u32; 4096],
+    records: &mut [u32; 4096],
+    bytes: &mut [u8],
+    i: usize,
+    among_several: bool,
+) -> u8 {
     let mut name = io::buffer();
     let n = os::arg(i, &mut name);
     if os::errno() == libc::ENAMETOOLONG {
-        return answer_file(&mut name, among_several);
+        return answer_file(
+            page,
+            text,
+            batch,
+            state,
+            records,
+            bytes,
+            &name,
+            among_several,
+        );
     }
-    answer_file(&mut name[..n], among_several)
+    answer_file(
+        page,
+        text,
+        batch,
+        state,
+        records,
+        bytes,
+        &name[..n],
+        among_several,
+    )
 }
 
-fn answer_arguments(count: usize) -> u8 {
+fn answer_arguments(
+    page: &mut [u8; PAGE_BYTES],
+    text: &mut [u8; NAME_BYTES],
+    batch: &mut [u32; 4096],
+    state: &mut [u32; 4096],
+    records: &mut [u32; 4096],
+    bytes: &mut [u8],
+    count: usize,
+) -> u8 {
     let mut worst = ACCEPTED;
     let mut i = 1;
-    while i < count {
-        worst = worse(worst, answer_argument(i, 2 < count));
+    while i < count && worst < UNWRITTEN {
+        let status = answer_argument(page, text, batch, state, records, bytes, i, 2 < count);
+        worst = worse(worst, status);
         i += 1;
     }
     worst
 }
 
+// The buffers are made once, whatever the number of files: clearing them for each would take longer than the check.
 fn main() {
+    let mut page = [0u8; PAGE_BYTES];
+    let mut text = [0u8; NAME_BYTES];
+    let mut batch = [0u32; 4096];
+    let mut state = [0u32; 4096];
+    let mut records = [0u32; 4096];
+    let mut bytes = [0u8; MOST_BYTES];
     let count = os::arg_count();
     let status = if count < 2 {
-        answer_input(STDIN_FILENO, b"standard input", false)
+        answer_input(
+            &mut page,
+            &mut batch,
+            &mut state,
+            &mut records,
+            &mut bytes,
+            STDIN_FILENO,
+            b"standard input",
+            false,
+        )
     } else {
-        answer_arguments(count)
+        answer_arguments(
+            &mut page,
+            &mut text,
+            &mut batch,
+            &mut state,
+            &mut records,
+            &mut bytes,
+            count,
+        )
     };
     io::write_all(3, &reports::status_line(status));
 }

@@ -36,7 +36,7 @@ fn after_end(level: Level, base: Base) -> After
 }
 
 // Which dword of a window an address names; an address below the window counts as its start, as the definitions subtract.
-fn dword_of(at: u64, address: u64) -> usize
+pub fn dword_of(at: u64, address: u64) -> usize
     ensures { λ r. ⌜ r ≡ (address - at) / 4 ⌝ }
 {
     if address < at {

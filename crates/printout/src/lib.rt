@@ -1,4 +1,4 @@
-// The printout, in decimal and ASCII: the line of an answer, and the line of a record.
+// The printout, in decimal and ASCII: the line of an answer, the line of a record, and the lines of records gathered in a page.
 use lines::MOST_DIGITS;
 use lines::put_byte;
 use lines::put_digits;
@@ -12,6 +12,7 @@ ghost use lib.ListN.{length};
 ghost use Rattle.rules.specs.Printout.{decimal, answerLine, commandLine, recordLine};
 ghost use Rattle.rules.specs.Records.{commandOf};
 ghost use Rattle.lines.specs.Lines.{Put, Line};
+ghost use Rattle.printout.specs.Pages.{lineBytes, Gathered};
 
 // A number behind its label: "reason 0".
 fn put_labelled(out: &mut [u8], at: usize, label: &[u8], n: u32) -> usize
@@ -44,7 +45,7 @@ pub fn answer_line(out: &mut [u8; 128], answer: Answer) -> usize
 }
 
 // What a record says.
-fn command(word: u32) -> Command
+pub fn command(word: u32) -> Command
     ensures { λ r. ⌜ r ≡ commandOf word ⌝ }
 {
     let bits = word as usize;
@@ -56,10 +57,12 @@ fn command(word: u32) -> Command
     }
 }
 
-fn command_line(out: &mut [u8; 128], c: Command) -> usize
-    ensures { λ r. ⌜ Line (commandLine c) (now (out .entry)) r (now (out .exit)) ⌝ }
+// A command's line at a place of a page, and the place behind it.
+fn put_command(out: &mut [u8], at: usize, c: Command) -> usize
+    requires { ⌜ at + lineBytes ≤ length (now out) ⌝ }
+    ensures { λ r. ⌜ Put at lineBytes (commandLine c) (now (out .entry)) r (now (out .exit)) ⌝ }
 {
-    let level = put_column(out, 0, c.index, b' ');
+    let level = put_column(out, at, c.index, b' ');
     let row = put_column(out, level, c.level, b' ');
     let length = put_column(out, row, c.row, b' ');
     put_column(out, length, c.length, b'\n')
@@ -69,5 +72,27 @@ fn command_line(out: &mut [u8; 128], c: Command) -> usize
 pub fn record_line(out: &mut [u8; 128], word: u32) -> usize
     ensures { λ r. ⌜ Line (recordLine word) (now (out .entry)) r (now (out .exit)) ⌝ }
 {
-    command_line(out, command(word))
+    put_command(out, 0, command(word))
+}
+
+// The most bytes of a record's line.
+const LINE_BYTES: usize = 84;
+
+// Lines in a page: how many, and how many bytes they have.
+pub struct Page {
+    pub lines: usize,
+    pub bytes: usize,
+}
+
+// The lines of the records, from the first on, gathered in a page from byte 0 on, as many as there is surely room for.
+pub fn record_lines(out: &mut [u8], records: &[u32]) -> Page
+    ensures { λ r. ⌜ Gathered (now (records .entry)) (now (out .entry)) r (now (out .exit)) ⌝ }
+{
+    let mut lines = 0;
+    let mut bytes = 0;
+    while lines < records.len() && bytes + LINE_BYTES <= out.len() {
+        bytes = put_command(out, bytes, command(records[lines]));
+        lines += 1;
+    }
+    Page { lines, bytes }
 }

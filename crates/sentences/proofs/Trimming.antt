@@ -1,5 +1,5 @@
--- The words of a row, from its end: a space goes, and the first byte that is none stays with all before it. And the table of
--- reasons, row by row.
+-- The words of a row, from its end: a space goes, and the first byte that is none stays with all before it. And the tables of
+-- words, row by row.
 -- Assumes nothing.
 use Prim.Native.Nat.{ℕ, suc, _-_, _≤_, _<_}
 use native.Mathlib.Omega.{arith}
@@ -8,8 +8,9 @@ use mathlib.Core.List.{List, [], _∷_, _++_, map}
 use lib.ListN.{length, getD, take, replicate, List·getD-map, List·getD-eq-default}
 use lib.Seq.{take-suc, take-length, length-take-le}
 use borrow.Author.Tests.{ne-eqb}
+use Prim.Native.String.{String}
 use Rattle.rules.specs.Printout.{bytes}
-use Rattle.sentences.specs.Words.{reasonTable, reasonWords}
+use Rattle.sentences.specs.Words.{wordsIn, reasonTable, commandTable, accessTable, errorTable}
 use Rattle.sentences.specs.Rows.{inFront, trimmed, Width}
 
 space-goes : (row : List ℕ) → trimmed (row ++ (32 ∷ [])) ≡ trimmed row
@@ -64,24 +65,40 @@ module _ (row : List ℕ) where
 pub front-counts : {row : List ℕ} {n : ℕ} → Width row n → length (take n row) ≡ n
 front-counts {row} {n} w = length-take-le n row (w .within)
 
--- the table of reasons as the code has it: each row filled up with spaces
+-- a table as the code has it: each row filled up with spaces
 unfoldable pub filled : List ℕ → List ℕ
 filled words = words ++ replicate (64 - length words) 32
 
-unfoldable pub reasonRows : List (List ℕ)
-reasonRows = map (λ words. filled (bytes words)) reasonTable
+unfoldable pub rowsOf : List String → List (List ℕ)
+rowsOf table = map (λ words. filled (bytes words)) table
 
-rows-say : map trimmed reasonRows ≡ map bytes reasonTable
-unfolding reasonTable filled reasonRows trimmed
-rows-say = refl
+-- the rows of a table have its words
+abbrev pub Says : List String → Type 0
+Says table = map trimmed (rowsOf table) ≡ map bytes table
 
-pub row-says : (reason : ℕ) → trimmed (getD reasonRows reason []) ≡ reasonWords reason
-unfolding trimmed reasonWords
-row-says reason =
-    sym (List·getD-map trimmed reasonRows reason [])
-    ∙ ap (λ (words : List (List ℕ)). getD words reason []) rows-say
-    ∙ List·getD-map bytes reasonTable reason ""
+pub reasons-say : Says reasonTable
+unfolding reasonTable filled rowsOf trimmed
+reasons-say = refl
 
-pub past-the-table : (reason : ℕ) → 22 ≤ reason → [] ≡ reasonWords reason
-unfolding reasonTable reasonWords
-past-the-table reason h = sym (ap bytes (List·getD-eq-default reasonTable "" h))
+pub commands-say : Says commandTable
+unfolding commandTable filled rowsOf trimmed
+commands-say = refl
+
+pub accesses-say : Says accessTable
+unfolding accessTable filled rowsOf trimmed
+accesses-say = refl
+
+pub errors-say : Says errorTable
+unfolding errorTable filled rowsOf trimmed
+errors-say = refl
+
+pub row-says : (table : List String) → Says table → (i : ℕ) → trimmed (getD (rowsOf table) i []) ≡ wordsIn table i
+unfolding trimmed wordsIn
+row-says table said i =
+    sym (List·getD-map trimmed (rowsOf table) i [])
+    ∙ ap (λ (words : List (List ℕ)). getD words i []) said
+    ∙ List·getD-map bytes table i ""
+
+pub past-the-table : (table : List String) (i : ℕ) → length table ≤ i → [] ≡ wordsIn table i
+unfolding wordsIn
+past-the-table table i h = sym (ap bytes (List·getD-eq-default table "" h))

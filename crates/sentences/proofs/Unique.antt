@@ -7,21 +7,39 @@ use Rattle.rules.specs.declared.Answer.{Answer}
 use Rattle.lines.specs.Lines.{Line}
 use Rattle.lines.proofs.Unique.{one-line}
 use Rattle.sentences.specs.declared.Unread.{Unread}
-use Rattle.sentences.specs.Lines.{acceptedLine, refusedLine, unreadLine, totalsLine}
+use Rattle.sentences.specs.declared.Detail.{Detail}
+use Rattle.sentences.specs.Lines.{refusedWords, unreadWords, acceptedLine, refusedLine, unreadLine, unlistedLine, reasonLine, unlistedTotal, totalsLine}
 
 module _ {old new new′ : List ℕ} {r r′ : ℕ} where
   pub accepted-line-unique : (name : List ℕ) (count : ℕ) → Line (acceptedLine name count) old r new
       → Line (acceptedLine name count) old r′ new′ → (r ≡ r′) × (new ≡ new′)
   accepted-line-unique name count = one-line
 
-  pub refused-line-unique : (name : List ℕ) (answer : Answer) (dword : ℕ) → Line (refusedLine name answer dword) old r new
-      → Line (refusedLine name answer dword) old r′ new′ → (r ≡ r′) × (new ≡ new′)
-  refused-line-unique name answer dword = one-line
+  pub refused-line-unique : (name : List ℕ) (answer : Answer) (dword : ℕ) (detail : Detail)
+      → Line (refusedLine name answer dword detail) old r new → Line (refusedLine name answer dword detail) old r′ new′ → (r ≡ r′) × (new ≡ new′)
+  refused-line-unique name answer dword detail = one-line
 
   pub unread-line-unique : (name : List ℕ) (why : Unread) → Line (unreadLine name why) old r new
       → Line (unreadLine name why) old r′ new′ → (r ≡ r′) × (new ≡ new′)
   unread-line-unique name why = one-line
 
-  pub totals-line-unique : (accepted refused unread : ℕ) → Line (totalsLine accepted refused unread) old r new
-      → Line (totalsLine accepted refused unread) old r′ new′ → (r ≡ r′) × (new ≡ new′)
-  totals-line-unique accepted refused unread = one-line
+  pub unlisted-line-unique : (name : List ℕ) → Line (unlistedLine name) old r new → Line (unlistedLine name) old r′ new′ → (r ≡ r′) × (new ≡ new′)
+  unlisted-line-unique name = one-line
+
+  pub reason-line-unique : (reason count : ℕ) → Line (reasonLine reason count) old r new
+      → Line (reasonLine reason count) old r′ new′ → (r ≡ r′) × (new ≡ new′)
+  reason-line-unique reason count = one-line
+
+  pub unlisted-total-unique : (count : ℕ) → Line (unlistedTotal count) old r new → Line (unlistedTotal count) old r′ new′ → (r ≡ r′) × (new ≡ new′)
+  unlisted-total-unique count = one-line
+
+  pub totals-line-unique : (accepted refused unread missing : ℕ) → Line (totalsLine accepted refused unread missing) old r new
+      → Line (totalsLine accepted refused unread missing) old r′ new′ → (r ≡ r′) × (new ≡ new′)
+  totals-line-unique accepted refused unread missing = one-line
+
+  pub refused-words-unique : (reason : ℕ) (detail : Detail) → Line (refusedWords reason detail) old r new
+      → Line (refusedWords reason detail) old r′ new′ → (r ≡ r′) × (new ≡ new′)
+  refused-words-unique reason detail = one-line
+
+  pub unread-words-unique : (why : Unread) → Line (unreadWords why) old r new → Line (unreadWords why) old r′ new′ → (r ≡ r′) × (new ≡ new′)
+  unread-words-unique why = one-line

@@ -1,40 +1,89 @@
--- A line of each kind, shown by computation.
+-- A line of each kind, and of each detail, shown by computation.
 use mathlib.Core.Path.{_≡_, refl}
+use mathlib.Core.List.{_++_}
+use Rattle.rules.specs.declared.Within.the-variants.{ScratchOnly}
+use Rattle.rules.specs.Commands.{storeRow, setRegistersRow}
 use Rattle.rules.specs.Printout.{digitsOf, bytes}
-use Rattle.sentences.specs.declared.Unread.the-variants.{NoSuchFile}
-use Rattle.sentences.specs.Hexadecimal.{hexDigit, hexDigits}
-use Rattle.sentences.specs.Words.{reasonTable, reasonWords, unreadWords}
+use Rattle.sentences.specs.declared.Unread.the-variants.{NoSuchFile, Folder, Other}
+use Rattle.sentences.specs.declared.Detail.the-variants.{NoMore, InCommand, Reach, HasBytes, HasTooMany}
+use Rattle.lines.specs.Hexadecimal.{hexDigit, hexDigits}
+use Rattle.sentences.specs.Words.{wordsIn, reasonTable, commandTable, accessTable, withinWords, errorTable}
 use Rattle.sentences.specs.Lines.{commandsText, windowText, dwordText, placeText, progressText, acceptedLine, refusedLine, unreadLine, totalsLine}
+use Rattle.sentences.specs.Lines.{bytesText, commandText, addressText, reachText, sizeText, detailText, refusedWords, errorText, unreadWords, isMissing}
 
 -- a capture that is accepted
 pub an-accepted-line : acceptedLine (bytes "a.capture") 214 ≡ bytes "a.capture: accepted, 214 commands\n"
 unfolding digitsOf commandsText acceptedLine
 an-accepted-line = refl
 
--- a number that has a dword at its place
-pub a-refused-line : refusedLine (bytes "a.capture") (record { reason = 13; window = 0; index = 2; count = 1 }) 0x00301000 ≡
-    bytes "a.capture: refused, 13 at batch dword 2 (00301000h) after 1 command: an address range does not fit\n"
-unfolding digitsOf hexDigit hexDigits reasonTable reasonWords commandsText windowText dwordText placeText progressText refusedLine
+-- a number that has a dword at its place, and what happened there
+pub a-refused-line : refusedLine (bytes "a.capture") (record { reason = 13; window = 0; index = 2; count = 1 }) 0x00301000
+    (Reach storeRow 0x00301000 4 ScratchOnly) ≡
+    bytes "a.capture: refused, 13 at batch dword 2 (00301000h) after 1 command: an address range does not fit"
+    ++ bytes ": MI_STORE_DATA_IMM, store to 4 bytes at 000000301000h, which should lie in scratch\n"
+unfolding digitsOf hexDigit hexDigits wordsIn reasonTable commandsText windowText dwordText placeText progressText refusedLine refusedWords commandTable
+    accessTable withinWords bytesText commandText addressText reachText detailText
 a-refused-line = refl
 
+-- a number whose command is named
+pub a-line-of-a-command : refusedLine (bytes "a.capture") (record { reason = 12; window = 0; index = 2; count = 1 }) 0x00002000
+    (InCommand setRegistersRow) ≡
+    bytes "a.capture: refused, 12 at batch dword 2 (00002000h) after 1 command: a value is not allowed: MI_LOAD_REGISTER_IMM\n"
+unfolding digitsOf hexDigit hexDigits wordsIn reasonTable commandsText windowText dwordText placeText progressText refusedLine refusedWords commandTable
+    commandText detailText
+a-line-of-a-command = refl
+
 -- a number that is found before the walk
-pub a-line-without-a-place : refusedLine (bytes "a.capture") (record { reason = 4; window = 0; index = 0; count = 0 }) 0 ≡
+pub a-line-without-a-place : refusedLine (bytes "a.capture") (record { reason = 4; window = 0; index = 0; count = 0 }) 0 NoMore ≡
     bytes "a.capture: refused, 4: two windows share a byte\n"
-unfolding digitsOf reasonTable reasonWords progressText refusedLine
+unfolding digitsOf wordsIn reasonTable progressText detailText refusedLine refusedWords
 a-line-without-a-place = refl
 
 -- number 6
-pub a-line-at-the-end : refusedLine (bytes "a.capture") (record { reason = 6; window = 0; index = 9; count = 3 }) 0 ≡
+pub a-line-at-the-end : refusedLine (bytes "a.capture") (record { reason = 6; window = 0; index = 9; count = 3 }) 0 NoMore ≡
     bytes "a.capture: refused, 6 at the end of the batch after 3 commands: the run has not ended there\n"
-unfolding digitsOf reasonTable reasonWords commandsText placeText progressText refusedLine
+unfolding digitsOf wordsIn reasonTable commandsText placeText progressText detailText refusedLine refusedWords
 a-line-at-the-end = refl
 
--- a file that was not read
-pub an-unread-line : unreadLine (bytes "a.capture") NoSuchFile ≡ bytes "a.capture: unread: there is no such file\n"
-unfolding unreadWords unreadLine
+-- number 18: the program lends 4,096 record words
+pub a-line-of-a-loop : refusedLine (bytes "a.capture") (record { reason = 18; window = 0; index = 0; count = 4096 }) 0x18800101 NoMore ≡
+    bytes "a.capture: refused, 18 at batch dword 0 (18800101h) after 4096 commands: the run has not ended after 4,096 commands\n"
+unfolding digitsOf hexDigit hexDigits wordsIn reasonTable commandsText windowText dwordText placeText progressText refusedLine refusedWords detailText
+a-line-of-a-loop = refl
+
+-- number 19, by the file's size
+pub a-line-of-an-empty-file : detailText (HasBytes 0) ≡ bytes ": it is empty"
+unfolding sizeText detailText
+a-line-of-an-empty-file = refl
+
+pub a-line-of-a-size : refusedLine (bytes "a.capture") (record { reason = 19; window = 0; index = 0; count = 0 }) 0 (HasBytes 39) ≡
+    bytes "a.capture: refused, 19: the file is shorter than its trailer or longer than any capture: it has 39 bytes\n"
+unfolding digitsOf wordsIn reasonTable progressText bytesText sizeText detailText refusedLine refusedWords
+a-line-of-a-size = refl
+
+pub a-line-of-a-pipe : detailText HasTooMany ≡ bytes ": it has over 32,808 bytes"
+unfolding detailText
+a-line-of-a-pipe = refl
+
+-- a file that is not there, and one that was not read
+pub a-missing-line : unreadLine (bytes "a.capture") NoSuchFile ≡ bytes "a.capture: missing: there is no such file\n"
+unfolding unreadWords isMissing unreadLine
+a-missing-line = refl
+
+pub an-unread-line : unreadLine (bytes "a.capture") Folder ≡ bytes "a.capture: unread: it is a folder\n"
+unfolding unreadWords isMissing unreadLine
 an-unread-line = refl
 
+-- an error that the table has words for, and one by its number
+pub an-error-with-words : unreadWords (Other 5) ≡ bytes "it cannot be read: Input/output error"
+unfolding unreadWords errorText wordsIn errorTable
+an-error-with-words = refl
+
+pub an-error-by-number : unreadWords (Other 117) ≡ bytes "it cannot be read: error 117"
+unfolding digitsOf unreadWords errorText
+an-error-by-number = refl
+
 -- the last line
-pub a-totals-line : totalsLine 2 1 0 ≡ bytes "2 accepted, 1 refused, 0 unread\n"
+pub a-totals-line : totalsLine 2 1 0 0 ≡ bytes "2 accepted, 1 refused, 0 unread, 0 missing\n"
 unfolding digitsOf totalsLine
 a-totals-line = refl

@@ -1,4 +1,3 @@
-pub mod Hexadecimal
 pub mod Words
 pub mod Lines
 pub mod Examples

@@ -1,13 +1,17 @@
 -- The lines of audit: each kind from its first byte to the line feed, and the parts that it is made of.
 use Prim.Native.Nat.{ℕ}
-use mathlib.Core.Bool.{cond}
+use mathlib.Core.Bool.{Bool, true, false, cond}
 use mathlib.Core.List.{List, [], _++_}
 use lib.Dec.{eqb, ltb}
 use Rattle.rules.specs.declared.Answer.{Answer}
+use Rattle.rules.specs.declared.Within.{Within}
 use Rattle.rules.specs.Printout.{decimal, bytes}
 use Rattle.sentences.specs.declared.Unread.{Unread}
-use Rattle.sentences.specs.Hexadecimal.{hexDigits}
-use Rattle.sentences.specs.Words.{reasonWords, unreadWords}
+use Rattle.sentences.specs.declared.Unread.the-variants.{NoSuchFile, NotAllowed, Folder, NameTooLong, Changed, NoRegularFile, Other}
+use Rattle.sentences.specs.declared.Detail.{Detail}
+use Rattle.sentences.specs.declared.Detail.the-variants.{NoMore, InCommand, Reach, HasBytes, HasTooMany}
+use Rattle.lines.specs.Hexadecimal.{hexDigits}
+use Rattle.sentences.specs.Words.{reasonWords, commandWords, accessWords, withinWords, errorWords}
 
 -- "1 command", "214 commands"
 unfoldable pub commandsText : ℕ → List ℕ
@@ -33,20 +37,92 @@ progressText a dword =
     cond (ltb (a .reason) 5) []
     (cond (ltb 18 (a .reason)) [] (placeText a dword ++ bytes " after " ++ commandsText (a .count)))
 
+-- "1 byte", "4 bytes"
+unfoldable pub bytesText : ℕ → List ℕ
+bytesText n = decimal n ++ cond (eqb n 1) (bytes " byte") (bytes " bytes")
+
+-- ": MI_STORE_DATA_IMM"
+unfoldable pub commandText : ℕ → List ℕ
+commandText row = bytes ": " ++ commandWords row
+
+-- an address, which has 48 bits: " at 000000301000h"
+unfoldable pub addressText : ℕ → List ℕ
+addressText address = bytes " at " ++ hexDigits 12 address ++ bytes "h"
+
+-- ": MI_STORE_DATA_IMM, store to 4 bytes at 000000301000h, which should lie in scratch"
+unfoldable pub reachText : ℕ → ℕ → ℕ → Within → List ℕ
+reachText row address length within =
+    commandText row ++ (bytes ", " ++ accessWords row) ++ (bytes " " ++ bytesText length) ++ addressText address
+    ++ (bytes ", which should lie in " ++ withinWords within)
+
+-- ": it is empty", ": it has 39 bytes"
+unfoldable pub sizeText : ℕ → List ℕ
+sizeText n = cond (eqb n 0) (bytes ": it is empty") (bytes ": it has " ++ bytesText n)
+
+-- what happened, behind the words for the reason
+unfoldable pub detailText : Detail → List ℕ
+detailText NoMore = []
+detailText (InCommand row) = commandText row
+detailText (Reach row address length within) = reachText row address length within
+detailText (HasBytes n) = sizeText n
+detailText HasTooMany = bytes ": it has over 32,808 bytes"
+
+-- why a capture is refused: the words for the reason, and what happened
+unfoldable pub refusedWords : ℕ → Detail → List ℕ
+refusedWords reason detail = reasonWords reason ++ detailText detail
+
+-- an error of the system: "Input/output error", or by its number alone, "error 117"
+unfoldable pub errorText : ℕ → List ℕ
+errorText error = cond (ltb 40 error) (bytes "error " ++ decimal error) (errorWords error)
+
+-- why the system did not give a file
+unfoldable pub unreadWords : Unread → List ℕ
+unreadWords NoSuchFile = bytes "there is no such file"
+unreadWords NotAllowed = bytes "it may not be read"
+unreadWords Folder = bytes "it is a folder"
+unreadWords NameTooLong = bytes "the name is longer than the system takes"
+unreadWords Changed = bytes "it changed while it was read"
+unreadWords NoRegularFile = bytes "it is no regular file"
+unreadWords (Other error) = bytes "it cannot be read: " ++ errorText error
+
+-- a file that is not there is missing, and any other that was not read is unread
+unfoldable pub isMissing : Unread → Bool
+isMissing NoSuchFile = true
+isMissing NotAllowed = false
+isMissing Folder = false
+isMissing NameTooLong = false
+isMissing Changed = false
+isMissing NoRegularFile = false
+isMissing (Other error) = false
+
 -- "a.capture: accepted, 214 commands"
 unfoldable pub acceptedLine : List ℕ → ℕ → List ℕ
 acceptedLine name count = name ++ bytes ": accepted, " ++ commandsText count ++ bytes "\n"
 
--- "a.capture: refused, 13 at batch dword 2 (00301000h) after 1 command: an address range does not fit"
-unfoldable pub refusedLine : List ℕ → Answer → ℕ → List ℕ
-refusedLine name a dword =
-    name ++ bytes ": refused, " ++ decimal (a .reason) ++ progressText a dword ++ bytes ": " ++ reasonWords (a .reason) ++ bytes "\n"
+-- "a.capture: refused, 12 at batch dword 2 (00002000h) after 1 command: a value is not allowed: MI_LOAD_REGISTER_IMM"
+unfoldable pub refusedLine : List ℕ → Answer → ℕ → Detail → List ℕ
+refusedLine name a dword detail =
+    name ++ bytes ": refused, " ++ decimal (a .reason) ++ progressText a dword ++ bytes ": " ++ refusedWords (a .reason) detail ++ bytes "\n"
 
--- "a.capture: unread: there is no such file"
+-- "a.capture: missing: there is no such file", "a.capture: unread: it is a folder"
 unfoldable pub unreadLine : List ℕ → Unread → List ℕ
-unreadLine name why = name ++ bytes ": unread: " ++ unreadWords why ++ bytes "\n"
+unreadLine name why = name ++ cond (isMissing why) (bytes ": missing: ") (bytes ": unread: ") ++ unreadWords why ++ bytes "\n"
 
--- "2 accepted, 1 refused, 0 unread"
-unfoldable pub totalsLine : ℕ → ℕ → ℕ → List ℕ
-totalsLine accepted refused unread =
-    (decimal accepted ++ bytes " accepted, ") ++ (decimal refused ++ bytes " refused, ") ++ (decimal unread ++ bytes " unread\n")
+-- "a.capture: not listed"
+unfoldable pub unlistedLine : List ℕ → List ℕ
+unlistedLine name = name ++ bytes ": not listed\n"
+
+-- "2 refused by 13: an address range does not fit"
+unfoldable pub reasonLine : ℕ → ℕ → List ℕ
+reasonLine reason count =
+    (decimal count ++ bytes " refused by ") ++ (decimal reason ++ bytes ": ") ++ reasonWords reason ++ bytes "\n"
+
+-- "3 not listed"
+unfoldable pub unlistedTotal : ℕ → List ℕ
+unlistedTotal count = decimal count ++ bytes " not listed\n"
+
+-- "2 accepted, 1 refused, 0 unread, 0 missing"
+unfoldable pub totalsLine : ℕ → ℕ → ℕ → ℕ → List ℕ
+totalsLine accepted refused unread missing =
+    (decimal accepted ++ bytes " accepted, ") ++ (decimal refused ++ bytes " refused, ") ++ (decimal unread ++ bytes " unread, ")
+    ++ (decimal missing ++ bytes " missing\n")

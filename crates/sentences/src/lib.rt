@@ -1,22 +1,29 @@
 // What audit says of a capture, in plain words: the line of a file, and the line of the totals.
+use crate::details::put_refusal;
 use crate::parts::put_both;
 use crate::parts::put_commands;
 use crate::parts::put_count;
 use crate::parts::put_progress;
+use crate::why::put_unread;
+use crate::why::put_verdict;
 use crate::words::put_row;
 use crate::words::reason_row;
-use crate::words::unread_row;
+use lines::LINE_BYTES;
 use lines::MOST_DIGITS;
 use lines::put_byte;
 use lines::put_digits;
 use lines::put_text;
 use rules::Answer;
+use rules::Within;
 ghost use Prim.Native.Nat.{_≤_};
+ghost use mathlib.Core.Path.{_≡_};
 ghost use lib.ListN.{length};
-ghost use Rattle.lines.specs.Lines.{Line};
-ghost use Rattle.sentences.specs.Lines.{acceptedLine, refusedLine, unreadLine, totalsLine};
+ghost use Rattle.lines.specs.Lines.{Line, nameBytes};
+ghost use Rattle.sentences.specs.Lines.{refusedWords, unreadWords, isMissing, acceptedLine, refusedLine, unreadLine, unlistedLine, reasonLine, unlistedTotal, totalsLine};
 
+mod details;
 mod parts;
+mod why;
 mod words;
 
 // Why a file was not read.
@@ -25,13 +32,57 @@ pub enum Unread {
     NotAllowed,
     Folder,
     NameTooLong,
-    Other,
+    Changed,
+    NoRegularFile,
+    // the system's error, by its number
+    Other(usize),
 }
 
-// Each line stands in the lent buffer from byte 0 on, and its length comes back. A name has at most 4,096 bytes, and what is said of
-// the file fewer than 512.
-pub fn accepted_line(line: &mut [u8; 4608], name: &[u8], count: u32) -> usize
-    requires { ⌜ length (now name) ≤ 4096 ⌝ }
+// What happened at a refusal, beside its reason: the row of the command; for 13 the address that it uses with it, how many bytes, and where
+// they should lie; or the file's size, where that is known.
+pub enum Detail {
+    NoMore,
+    InCommand(usize),
+    Reach(usize, u64, u64, Within),
+    HasBytes(u64),
+    HasTooMany,
+}
+
+// How many bytes there are at most of what is said of a file.
+pub const WORDS_BYTES: usize = 512;
+
+// Whether a file is not there: then it is missing, and else it is unread.
+pub fn is_missing(why: Unread) -> bool
+    ensures { λ r. ⌜ r ≡ isMissing why ⌝ }
+{
+    match why {
+        Unread::NoSuchFile => true,
+        Unread::NotAllowed => false,
+        Unread::Folder => false,
+        Unread::NameTooLong => false,
+        Unread::Changed => false,
+        Unread::NoRegularFile => false,
+        Unread::Other(_) => false,
+    }
+}
+
+// The words of a refusal, from byte 0 on, and their length: what its number means, and what happened.
+pub fn refused_words(words: &mut [u8; WORDS_BYTES], reason: u32, detail: Detail) -> usize
+    ensures { λ r. ⌜ Line (refusedWords reason detail) (now (words .entry)) r (now (words .exit)) ⌝ }
+{
+    put_refusal(words, 0, reason, detail)
+}
+
+// The words for why a file was not read, from byte 0 on, and their length.
+pub fn unread_words(words: &mut [u8; WORDS_BYTES], why: Unread) -> usize
+    ensures { λ r. ⌜ Line (unreadWords why) (now (words .entry)) r (now (words .exit)) ⌝ }
+{
+    put_unread(words, 0, why)
+}
+
+// Each line stands in the lent buffer from byte 0 on, and its length comes back.
+pub fn accepted_line(line: &mut [u8; LINE_BYTES], name: &[u8], count: u32) -> usize
+    requires { ⌜ length (now name) ≤ nameBytes ⌝ }
     ensures { λ r. ⌜ Line (acceptedLine (now (name .entry)) count) (now (line .entry)) r (now (line .exit)) ⌝ }
 {
     let number = put_both(line, 0, name, b": accepted, ");
@@ -39,31 +90,70 @@ pub fn accepted_line(line: &mut [u8; 4608], name: &[u8], count: u32) -> usize
     put_byte(line, end, b'\n')
 }
 
-pub fn refused_line(line: &mut [u8; 4608], name: &[u8], answer: Answer, dword: u32) -> usize
-    requires { ⌜ length (now name) ≤ 4096 ⌝ }
-    ensures { λ r. ⌜ Line (refusedLine (now (name .entry)) answer dword) (now (line .entry)) r (now (line .exit)) ⌝ }
+pub fn refused_line(
+    line: &mut [u8; LINE_BYTES],
+    name: &[u8],
+    answer: Answer,
+    dword: u32,
+    detail: Detail,
+) -> usize
+    requires { ⌜ length (now name) ≤ nameBytes ⌝ }
+    ensures { λ r. ⌜ Line (refusedLine (now (name .entry)) answer dword detail) (now (line .entry)) r (now (line .exit)) ⌝ }
 {
     let number = put_both(line, 0, name, b": refused, ");
     let place = put_digits(line, number, MOST_DIGITS, answer.reason as usize);
     let colon = put_progress(line, place, answer, dword);
-    let reason = put_text(line, colon, b": ");
-    let end = put_row(line, reason, reason_row(answer.reason));
+    let words = put_text(line, colon, b": ");
+    let end = put_refusal(line, words, answer.reason, detail);
     put_byte(line, end, b'\n')
 }
 
-pub fn unread_line(line: &mut [u8; 4608], name: &[u8], why: Unread) -> usize
-    requires { ⌜ length (now name) ≤ 4096 ⌝ }
+pub fn unread_line(line: &mut [u8; LINE_BYTES], name: &[u8], why: Unread) -> usize
+    requires { ⌜ length (now name) ≤ nameBytes ⌝ }
     ensures { λ r. ⌜ Line (unreadLine (now (name .entry)) why) (now (line .entry)) r (now (line .exit)) ⌝ }
 {
-    let reason = put_both(line, 0, name, b": unread: ");
-    let end = put_row(line, reason, unread_row(why));
+    let verdict = put_text(line, 0, name);
+    let words = put_verdict(line, verdict, why);
+    let end = put_unread(line, words, why);
     put_byte(line, end, b'\n')
 }
 
-pub fn totals_line(line: &mut [u8; 4608], accepted: u64, refused: u64, unread: u64) -> usize
-    ensures { λ r. ⌜ Line (totalsLine accepted refused unread) (now (line .entry)) r (now (line .exit)) ⌝ }
+// Of a capture in a folder that the list has not.
+pub fn unlisted_line(line: &mut [u8; LINE_BYTES], name: &[u8]) -> usize
+    requires { ⌜ length (now name) ≤ nameBytes ⌝ }
+    ensures { λ r. ⌜ Line (unlistedLine (now (name .entry))) (now (line .entry)) r (now (line .exit)) ⌝ }
+{
+    put_both(line, 0, name, b": not listed\n")
+}
+
+// How many captures a reason refused.
+pub fn reason_line(line: &mut [u8; LINE_BYTES], reason: u32, count: u64) -> usize
+    ensures { λ r. ⌜ Line (reasonLine reason count) (now (line .entry)) r (now (line .exit)) ⌝ }
+{
+    let number = put_count(line, 0, count as usize, b" refused by ");
+    let words = put_count(line, number, reason as usize, b": ");
+    let end = put_row(line, words, reason_row(reason));
+    put_byte(line, end, b'\n')
+}
+
+// How many captures in the folder the list has not.
+pub fn unlisted_total(line: &mut [u8; LINE_BYTES], count: u64) -> usize
+    ensures { λ r. ⌜ Line (unlistedTotal count) (now (line .entry)) r (now (line .exit)) ⌝ }
+{
+    put_count(line, 0, count as usize, b" not listed\n")
+}
+
+pub fn totals_line(
+    line: &mut [u8; LINE_BYTES],
+    accepted: u64,
+    refused: u64,
+    unread: u64,
+    missing: u64,
+) -> usize
+    ensures { λ r. ⌜ Line (totalsLine accepted refused unread missing) (now (line .entry)) r (now (line .exit)) ⌝ }
 {
     let second = put_count(line, 0, accepted as usize, b" accepted, ");
     let third = put_count(line, second, refused as usize, b" refused, ");
-    put_count(line, third, unread as usize, b" unread\n")
+    let fourth = put_count(line, third, unread as usize, b" unread, ");
+    put_count(line, fourth, missing as usize, b" missing\n")
 }

@@ -3,6 +3,7 @@
 use lines::MOST_DIGITS;
 use lines::put_byte;
 use lines::put_digits;
+use lines::put_hex;
 use lines::put_text;
 use rules::Answer;
 ghost use Prim.Native.Nat.{_+_, _≤_, _<_};
@@ -11,7 +12,6 @@ ghost use mathlib.Core.List.{_++_};
 ghost use lib.ListN.{length};
 ghost use Rattle.rules.specs.Printout.{decimal};
 ghost use Rattle.lines.specs.Lines.{Put};
-ghost use Rattle.sentences.specs.Hexadecimal.{hexDigit, hexDigits};
 ghost use Rattle.sentences.specs.Lines.{commandsText, windowText, dwordText, placeText, progressText};
 
 // Two texts, the second behind the first: the name of a file, and what is said of it.
@@ -54,26 +54,6 @@ fn put_window(line: &mut [u8], at: usize, window: u32) -> usize
     } else {
         put_text(line, at, b" at state dword ")
     }
-}
-
-fn hex_digit(n: usize) -> u8
-    requires { ⌜ n < 16 ⌝ }
-    ensures { λ r. ⌜ r ≡ hexDigit n ⌝ }
-{
-    let low = n as u8;
-    if n < 10 { 48 + low } else { 55 + low }
-}
-
-// The last `count` hexadecimal digits of n.
-fn put_hex(line: &mut [u8], at: usize, count: usize, n: usize) -> usize
-    requires { ⌜ at + count ≤ length (now line) ⌝ }
-    ensures { λ r. ⌜ Put at count (hexDigits count n) (now (line .entry)) r (now (line .exit)) ⌝ }
-{
-    if count == 0 {
-        return at;
-    }
-    let last = put_hex(line, at, count - 1, n / 16);
-    put_byte(line, last, hex_digit(n % 16))
 }
 
 fn put_dword(line: &mut [u8], at: usize, dword: u32) -> usize

@@ -1,12 +1,13 @@
 // The tables of words. A row is filled up with spaces: so a table is one constant, which the check takes in less time than an arm for each text.
-use crate::Unread;
 use lines::put_text;
+use rules::Within;
+use rules::names::ROWS;
 ghost use Prim.Native.Nat.{_+_, _≤_};
 ghost use mathlib.Core.Path.{_≡_};
 ghost use lib.ListN.{length};
 ghost use Rattle.lines.specs.Lines.{Put};
 ghost use Rattle.sentences.specs.Rows.{trimmed, Width};
-ghost use Rattle.sentences.specs.Words.{reasonWords, unreadWords};
+ghost use Rattle.sentences.specs.Words.{reasonWords, commandWords, accessWords, withinWords, errorWords};
 
 // What each of document 01's numbers means, from 0 on, which is no reason.
 const REASONS: [[u8; 64]; 22] = [
@@ -28,10 +29,97 @@ const REASONS: [[u8; 64]; 22] = [
     *b"the structure lies in neither the batch nor the state window    ",
     *b"a structure has a bit set that is not allowed                   ",
     *b"a value in a structure is not allowed                           ",
-    *b"the list of commands is full                                    ",
+    *b"the run has not ended after 4,096 commands                      ",
     *b"the file is shorter than its trailer or longer than any capture ",
     *b"the length of the file and its trailer do not agree             ",
     *b"a lent buffer is too short                                      ",
+];
+
+// The commands of document 01's table, by row.
+const COMMANDS: [[u8; 64]; ROWS] = [
+    *b"MI_NOOP                                                         ",
+    *b"MI_BATCH_BUFFER_END                                             ",
+    *b"MI_BATCH_BUFFER_START                                           ",
+    *b"MI_LOAD_REGISTER_IMM                                            ",
+    *b"MI_STORE_DATA_IMM                                               ",
+    *b"MI_STORE_REGISTER_MEM                                           ",
+    *b"MI_LOAD_REGISTER_MEM                                            ",
+    *b"PIPE_CONTROL                                                    ",
+    *b"PIPELINE_SELECT                                                 ",
+    *b"STATE_BASE_ADDRESS                                              ",
+    *b"3DSTATE_VERTEX_BUFFERS                                          ",
+    *b"3DSTATE_VERTEX_ELEMENTS                                         ",
+    *b"3DSTATE_INDEX_BUFFER                                            ",
+    *b"3DSTATE_VF_TOPOLOGY                                             ",
+    *b"3DSTATE_VIEWPORT_STATE_POINTERS_CC                              ",
+    *b"3DSTATE_CC_STATE_POINTERS                                       ",
+    *b"3DPRIMITIVE                                                     ",
+];
+
+// What the command of a row does with its address; most have none.
+const ACCESSES: [[u8; 64]; ROWS] = [
+    *b"                                                                ",
+    *b"                                                                ",
+    *b"jump to                                                         ",
+    *b"                                                                ",
+    *b"store to                                                        ",
+    *b"store to                                                        ",
+    *b"load from                                                       ",
+    *b"store to                                                        ",
+    *b"                                                                ",
+    *b"                                                                ",
+    *b"vertex buffer of                                                ",
+    *b"                                                                ",
+    *b"index buffer of                                                 ",
+    *b"                                                                ",
+    *b"                                                                ",
+    *b"                                                                ",
+    *b"                                                                ",
+];
+
+// What the system calls its errors, from 0 on, which is none.
+const ERRORS: [[u8; 64]; 41] = [
+    *b"no reason is known                                              ",
+    *b"Operation not permitted                                         ",
+    *b"No such file or directory                                       ",
+    *b"No such process                                                 ",
+    *b"Interrupted system call                                         ",
+    *b"Input/output error                                              ",
+    *b"No such device or address                                       ",
+    *b"Argument list too long                                          ",
+    *b"Exec format error                                               ",
+    *b"Bad file descriptor                                             ",
+    *b"No child processes                                              ",
+    *b"Resource temporarily unavailable                                ",
+    *b"Cannot allocate memory                                          ",
+    *b"Permission denied                                               ",
+    *b"Bad address                                                     ",
+    *b"Block device required                                           ",
+    *b"Device or resource busy                                         ",
+    *b"File exists                                                     ",
+    *b"Invalid cross-device link                                       ",
+    *b"No such device                                                  ",
+    *b"Not a directory                                                 ",
+    *b"Is a directory                                                  ",
+    *b"Invalid argument                                                ",
+    *b"Too many open files in system                                   ",
+    *b"Too many open files                                             ",
+    *b"Inappropriate ioctl for device                                  ",
+    *b"Text file busy                                                  ",
+    *b"File too large                                                  ",
+    *b"No space left on device                                         ",
+    *b"Illegal seek                                                    ",
+    *b"Read-only file system                                           ",
+    *b"Too many links                                                  ",
+    *b"Broken pipe                                                     ",
+    *b"Numerical argument out of domain                                ",
+    *b"Numerical result out of range                                   ",
+    *b"Resource deadlock avoided                                       ",
+    *b"File name too long                                              ",
+    *b"No locks available                                              ",
+    *b"Function not implemented                                        ",
+    *b"Directory not empty                                             ",
+    *b"Too many levels of symbolic links                               ",
 ];
 
 // A number that is no reason has no words.
@@ -42,22 +130,46 @@ pub fn reason_row(reason: u32) -> [u8; 64]
     if i < 22 { REASONS[i] } else { [b' '; 64] }
 }
 
-// Why the system did not give a file.
-pub fn unread_row(why: Unread) -> [u8; 64]
-    ensures { λ r. ⌜ trimmed r ≡ unreadWords why ⌝ }
+// A number that is no row has no name.
+pub fn command_row(row: usize) -> [u8; 64]
+    ensures { λ r. ⌜ trimmed r ≡ commandWords row ⌝ }
 {
-    match why {
-        Unread::NoSuchFile => {
-            *b"there is no such file                                           "
-        }
-        Unread::NotAllowed => {
-            *b"it may not be read                                              "
-        }
-        Unread::Folder => *b"it is a folder                                                  ",
-        Unread::NameTooLong => {
-            *b"the name is longer than the system takes                        "
-        }
-        Unread::Other => *b"it cannot be read                                               ",
+    if row < ROWS {
+        COMMANDS[row]
+    } else {
+        [b' '; 64]
+    }
+}
+
+pub fn access_row(row: usize) -> [u8; 64]
+    ensures { λ r. ⌜ trimmed r ≡ accessWords row ⌝ }
+{
+    if row < ROWS {
+        ACCESSES[row]
+    } else {
+        [b' '; 64]
+    }
+}
+
+// Where an address range should lie.
+pub fn within_row(within: Within) -> [u8; 64]
+    ensures { λ r. ⌜ trimmed r ≡ withinWords within ⌝ }
+{
+    match within {
+        Within::BatchOnly => *b"the batch                                                       ",
+        Within::ScratchOnly => *b"scratch                                                         ",
+        Within::AnyWindow => *b"one window                                                      ",
+    }
+}
+
+// A number past the table has no words.
+pub fn error_row(error: usize) -> [u8; 64]
+    ensures { λ r. ⌜ trimmed r ≡ errorWords error ⌝ }
+{
+    if error < 41 {
+        ERRORS[error]
+    } else {
+        [b' '; 64]
     }
 }
 

@@ -5,8 +5,8 @@ use borrow.Author.Needs.{needs}
 use Rattle.audit.proofs.write_front.Statement.{statement}
 use Rattle.audit.proofs.write_front.Tie as tie
 
-slice-aggregate-write-all : tie.Need-slice-aggregate-write-all
-slice-aggregate-write-all c = front _ _ (c .before .before .pre)
-
 pub write-front-spec : {M : Type 1} → statement M
-write-front-spec = tie.close (tie.spec slice-aggregate-write-all (λ c κs. search needs) (λ c. search needs))
+write-front-spec =
+    tie.close
+    (tie.spec (λ c. front _ _ (c .before .before .pre)) (λ c κs. search needs) (λ c. search needs) (λ c. search needs)
+    (λ c κs. search needs) (λ c. search needs))

@@ -1,4 +1,4 @@
--- `refused_line` meets its contract: the name, the number, the progress and the words for the number, each behind the last.
+-- `refused_line` meets its contract: the name, the number, the progress and the words of the refusal, each behind the last.
 -- Assumes nothing.
 use borrow.Author.Needs.{needs}
 use Rattle.lines.proofs.Putting.{then, whole}
@@ -9,17 +9,17 @@ use Rattle.sentences.proofs.refused_line.Tie as tie
 returns : tie.Need-returns
 unfolding refusedLine
 returns c =
-    let row = c .before .before in
-    let colon = row .before .before .before in
+    let words = c .before .before in
+    let colon = words .before .before in
     let progress = colon .before .before .before in
     let number = progress .before .before in
     let name = number .before .before .before in
-    let words = rw (row .before .reason-row .ensures) at (row .put-row .ensures) in
     let place = then (then (name .put-both .ensures) (number .put-digits .ensures)) (progress .put-progress .ensures) in
-    whole (search needs) (then (then (then place (colon .put-text .ensures)) words) (c .put-byte .ensures))
+    let refusal = then (then place (colon .put-text .ensures)) (words .put-refusal .ensures) in
+    whole (search needs) (then refusal (c .put-byte .ensures))
 
 pub refused-line-spec : {M : Type 1} → statement M
 refused-line-spec =
     tie.close
     (tie.spec (λ c. search needs) (λ c κs. search needs) (λ c. search needs) (λ c κs. search needs) (λ c κs. search needs)
-    (λ c. search needs) (λ c κs. search needs) (λ c κs. search needs) (λ c κs. search needs) (λ c κs. search needs) returns)
+    (λ c. search needs) (λ c κs. search needs) (λ c κs. search needs) (λ c κs. search needs) returns)

@@ -1,4 +1,4 @@
--- `totals_line` meets its contract: three numbers, and the words behind each.
+-- `totals_line` meets its contract: four numbers, and the words behind each.
 -- Assumes nothing.
 use borrow.Author.Needs.{needs}
 use Rattle.lines.proofs.Putting.{then, whole}
@@ -9,12 +9,14 @@ use Rattle.sentences.proofs.totals_line.Tie as tie
 returns : tie.Need-returns
 unfolding totalsLine
 returns c =
-    let refused = c .before .before .before in
+    let unread = c .before .before .before in
+    let refused = unread .before .before .before in
     let accepted = refused .before .before .before in
-    whole (search needs) (then (then (accepted .put-count .ensures) (refused .put-count2 .ensures)) (c .put-count3 .ensures))
+    let read = then (accepted .put-count .ensures) (refused .put-count2 .ensures) in
+    whole (search needs) (then (then read (unread .put-count3 .ensures)) (c .put-count4 .ensures))
 
 pub totals-line-spec : {M : Type 1} → statement M
 totals-line-spec =
     tie.close
     (tie.spec (λ c. search needs) (λ c κs. search needs) (λ c. search needs) (λ c κs. search needs) (λ c. search needs)
-    (λ c κs. search needs) returns)
+    (λ c κs. search needs) (λ c. search needs) (λ c κs. search needs) returns)

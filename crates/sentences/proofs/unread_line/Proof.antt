@@ -9,13 +9,13 @@ use Rattle.sentences.proofs.unread_line.Tie as tie
 returns : tie.Need-returns
 unfolding unreadLine
 returns c =
-    let row = c .before .before in
-    let name = row .before .before .before in
-    let words = rw (row .before .unread-row .ensures) at (row .put-row .ensures) in
-    whole (search needs) (then (then (name .put-both .ensures) words) (c .put-byte .ensures))
+    let words = c .before .before in
+    let verdict = words .before .before in
+    let name = verdict .before .before in
+    let why = then (then (name .put-text .ensures) (verdict .put-verdict .ensures)) (words .put-unread .ensures) in
+    whole (search needs) (then why (c .put-byte .ensures))
 
 pub unread-line-spec : {M : Type 1} → statement M
 unread-line-spec =
     tie.close
-    (tie.spec (λ c. search needs) (λ c κs. search needs) (λ c κs. search needs) (λ c κs. search needs) (λ c κs. search needs)
-    returns)
+    (tie.spec (λ c κs. search needs) (λ c κs. search needs) (λ c κs. search needs) (λ c κs. search needs) returns)

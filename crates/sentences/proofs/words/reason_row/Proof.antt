@@ -3,17 +3,17 @@
 use borrow.Author.Needs.{needs}
 use Rattle.sentences.specs.Words.{reasonTable}
 use Rattle.sentences.specs.Rows.{trimmed}
-use Rattle.sentences.proofs.Trimming.{filled, reasonRows, row-says, past-the-table}
+use Rattle.sentences.proofs.Trimming.{filled, rowsOf, reasons-say, row-says, past-the-table}
 use Rattle.sentences.proofs.words.reason_row.Statement.{statement}
 use Rattle.sentences.proofs.words.reason_row.Tie as tie
 
 returns : tie.Need-returns
-unfolding reasonTable filled reasonRows
-returns c = row-says _
+unfolding reasonTable filled rowsOf
+returns c = row-says reasonTable reasons-say _
 
 returns-2 : tie.Need-returns-2
-unfolding trimmed
-returns-2 c = past-the-table _ (search needs)
+unfolding reasonTable trimmed
+returns-2 c = past-the-table reasonTable _ (search needs)
 
 pub reason-row-spec : {M : Type 1} → statement M
 reason-row-spec = tie.close (tie.spec (λ c. search needs) (λ c. search needs) returns returns-2)

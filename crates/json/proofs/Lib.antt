@@ -1,0 +1,4 @@
+pub mod Quoting
+pub mod Telling
+pub mod Bounds
+pub mod Unique

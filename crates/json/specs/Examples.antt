@@ -1,0 +1,43 @@
+-- A line of each kind, by computation.
+use mathlib.Core.Path.{_≡_, refl}
+use mathlib.Core.List.{[], _∷_, _++_}
+use lib.ListN.{replicate}
+use Rattle.rules.specs.Printout.{digitsOf, bytes}
+use Rattle.lines.specs.Hexadecimal.{hexDigit, hexDigits}
+use Rattle.json.specs.declared.Number.the-variants.{Is, Null}
+use Rattle.json.specs.declared.Outcome.the-variants.{Missing, Unlisted}
+use Rattle.json.specs.Strings.{quotedByte, quoted}
+use Rattle.json.specs.Objects.{outcomeText, numberText, dwordText, withAnswer, judged, notJudged, headText, placeText, fileLine}
+use Rattle.json.specs.Objects.{reasonText, reasonsOn, countsText, totalsLine}
+
+pub strings : (quoted (bytes "say \"a\\b\"") ≡ bytes "say \\\"a\\\\b\\\"")
+    × (quoted (bytes "two\nlines") ≡ bytes "two\\u000Alines")
+    × (quoted (0x1F ∷ 0x20 ∷ 0x7F ∷ 0xC3 ∷ 0xA9 ∷ []) ≡ bytes "\\u001F " ++ (0x7F ∷ 0xC3 ∷ 0xA9 ∷ []))
+unfolding hexDigit hexDigits quotedByte quoted
+strings = (refl, refl, refl)
+
+pub an-accepted-file : fileLine (bytes "a \"b\"") (bytes "accepted") (judged (Is 56) (record { reason = 0; window = 0; index = 0; count = 2 }) (Is 7))
+    ≡ bytes "{\"name\":\"a \\\"b\\\"\",\"size\":56,\"verdict\":\"accepted\",\"reason\":0,\"words\":\"accepted\",\"window\":0,\"index\":0,\"dword\":null,\"count\":2}\n"
+unfolding digitsOf hexDigit hexDigits quotedByte quoted outcomeText numberText dwordText withAnswer judged headText placeText fileLine
+an-accepted-file = refl
+
+pub a-refused-file : fileLine (bytes "a\\x0A") (bytes "an address range does not fit") (judged Null (record { reason = 13; window = 0; index = 2; count = 1 }) (Is 0x0030100F))
+    ≡ bytes "{\"name\":\"a\\\\x0A\",\"size\":null,\"verdict\":\"refused\",\"reason\":13,\"words\":\"an address range does not fit\",\"window\":0,\"index\":2,\"dword\":\"0030100F\",\"count\":1}\n"
+unfolding digitsOf hexDigit hexDigits quotedByte quoted outcomeText numberText dwordText withAnswer judged headText placeText fileLine
+a-refused-file = refl
+
+pub an-unlisted-file : fileLine (bytes "a\n") (bytes "not listed") (notJudged (Is 0) Unlisted)
+    ≡ bytes "{\"name\":\"a\\u000A\",\"size\":0,\"verdict\":\"unlisted\",\"reason\":null,\"words\":\"not listed\",\"window\":null,\"index\":null,\"dword\":null,\"count\":null}\n"
+unfolding digitsOf hexDigit hexDigits quotedByte quoted outcomeText numberText dwordText notJudged headText placeText fileLine
+an-unlisted-file = refl
+
+-- 13 refused two, 19 one
+pub the-totals : totalsLine (record { accepted = 4; refused = 3; unread = 0; missing = 1; unlisted = 2 }) (replicate 13 0 ++ (2 ∷ 0 ∷ 0 ∷ 0 ∷ 0 ∷ 0 ∷ 1 ∷ 0 ∷ 0 ∷ 0 ∷ []))
+    ≡ bytes "{\"accepted\":4,\"refused\":3,\"unread\":0,\"missing\":1,\"unlisted\":2,\"reasons\":{\"13\":2,\"19\":1},\"rules\":\"01+6\"}\n"
+unfolding digitsOf reasonText reasonsOn countsText totalsLine
+the-totals = refl
+
+pub no-refusal : totalsLine (record { accepted = 1; refused = 0; unread = 0; missing = 0; unlisted = 0 }) (replicate 23 0)
+    ≡ bytes "{\"accepted\":1,\"refused\":0,\"unread\":0,\"missing\":0,\"unlisted\":0,\"reasons\":{},\"rules\":\"01+6\"}\n"
+unfolding digitsOf reasonText reasonsOn countsText totalsLine
+no-refusal = refl
