@@ -141,7 +141,7 @@ fn command_detail(
     }
 }
 
-// Only 10 to 13 tell of a command, and 19 of the file's size. The buffers hold what the file before has left there, and of that nothing
+// 8 to 17 tell of a command, and 19 of the file's size. The buffers hold what the file before has left there, and of that nothing
 // is read: `judge` goes by the words that it fills.
 fn judged(
     file: &[u8],
@@ -158,7 +158,7 @@ fn judged(
     };
     let reason = answer.reason;
     let detail = match reason {
-        10..=13 => command_detail(file, batch, state, records, answer),
+        8..=17 => command_detail(file, batch, state, records, answer),
         19 => size,
         _ => Detail::NoMore,
     };

@@ -1,6 +1,6 @@
 -- What happened at a refused command: where it stands, told by the records of the commands before it, which it is, and what it reaches.
 use Prim.Native.Nat.{ℕ, _+_, _-_, _/_}
-use mathlib.Core.Bool.{Bool, cond, _&&_, _||_}
+use mathlib.Core.Bool.{Bool, cond, _&&_}
 use mathlib.Core.List.{List, [], _∷_}
 use lib.ListN.{length, take}
 use lib.Dec.{eqb, leb, ltb}
@@ -58,11 +58,11 @@ reachAt batch at k =
     cond (leb (at + lengthAt batch at) (length batch) && ltb k (lengthAt batch at))
     (reachWith (rowAt batch at) (dwordsAt batch at) k) NoMore
 
--- 10 and 12 tell of the command alone
+-- 8 to 17 are about a command, which has a name
 unfoldable pub ofCommand : ℕ → Bool
-ofCommand reason = eqb reason 10 || eqb reason 12
+ofCommand reason = ltb 7 reason && ltb reason 18
 
--- 13: what the command reaches; 10 and 12: the command
+-- 13: what the command reaches; any other that is about a command: which it is
 unfoldable pub detailAt : List ℕ → ℕ → Answer → Detail
 detailAt batch at a =
     cond (eqb (a .reason) 13) (reachAt batch at (a .index - at)) (cond (ofCommand (a .reason)) (InCommand (rowAt batch at)) NoMore)

@@ -140,11 +140,11 @@ fn distance(from: usize, to: usize) -> usize
     if from < to { to - from } else { 0 }
 }
 
-// Whether a reason tells of the command alone: 10 and 12.
+// Whether a reason is about a command, which has a name: 8 to 17.
 fn of_command(reason: u32) -> bool
     ensures { λ r. ⌜ r ≡ ofCommand reason ⌝ }
 {
-    (reason == 10) | (reason == 12)
+    (7 < reason) & (reason < 18)
 }
 
 fn detail_at(batch: &[u32], at: usize, answer: Answer) -> Detail
