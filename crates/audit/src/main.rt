@@ -197,8 +197,11 @@ fn why() -> Unread {
 }
 
 // What a read behind the last byte shows: only one that gives nothing shows that a file has ended, and one that gives a byte that it has grown
-// meanwhile.
+// meanwhile. A terminal is not asked: it would wait for a second end.
 fn read_on(fd: i32) -> Rest {
+    if libc::isatty(fd) != 0 {
+        return Rest::Ended;
+    }
     let mut byte = [0u8; 1];
     let got = libc::read(fd, &mut byte);
     if got == 0 {
