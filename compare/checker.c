@@ -16,7 +16,7 @@ enum { /* document 01's refusal numbers */
 
 enum { /* the table's rows */
     NOOP, BATCH_END, BATCH_START, LOAD_IMM, STORE_IMM, STORE_REG, LOAD_REG, PIPE_CONTROL, PIPELINE_SELECT, BASE_ADDRESS,
-    VERTEX_BUFFERS, VERTEX_ELEMENTS, INDEX_BUFFER, TOPOLOGY, VIEWPORT, COLOUR_CALC, PRIMITIVE, NO_ROW
+    VERTEX_BUFFERS, VERTEX_ELEMENTS, INDEX_BUFFER, TOPOLOGY, VIEWPORT, COLOUR_CALC, PRIMITIVE, BLEND, NO_ROW
 };
 
 enum { WINDOW_LIMIT = 4096, BUDGET = 65536, TRAILER = 40, FILE_LIMIT = TRAILER + 4 * 2 * WINDOW_LIMIT };
@@ -108,6 +108,7 @@ static inline uint32_t row_of(uint32_t header)
     case 0x7823: return VIEWPORT;
     case 0x780E: return COLOUR_CALC;
     case 0x7B00: return PRIMITIVE;
+    case 0x7824: return BLEND;
     }
     return NO_ROW;
 }
@@ -134,6 +135,7 @@ static const struct shape viewport_shape = {VIEWPORT, 0x78230000, 0, {0, 0xFFFFF
 static const struct shape colour_calc_shape = {COLOUR_CALC, 0x780E0000, 0, {0, 0xFFFFFFC1}};
 static const struct shape primitive_shape = {
     PRIMITIVE, 0x7B000005, 0x700, {0, 0x33F, 0xFFFFFFFF, 0xFFFFFFFF, 0xFFFFFFFF, 0xFFFFFFFF, 0xFFFFFFFF}};
+static const struct shape blend_shape = {BLEND, 0x78240000, 0, {0, 0xFFFFFFC1}};
 
 static inline uint32_t length_of(uint32_t header) { return (header & 0xFF) + 2; }
 
@@ -246,6 +248,19 @@ static inline int element_good(uint32_t dword)
 }
 
 static inline int buffer_good(uint32_t dword) { return dword >> 26 <= 32 && (dword & 0xFFF) <= 2048; }
+
+/* Codes 01h to 0Ah, 11h to 15h and 17h to 1Ah, as bits. */
+static inline int factor_named(uint32_t code) { return 0x07BE07FE >> code & 1; }
+
+static inline int function_named(uint32_t code) { return code <= 4; }
+
+/* A blend entry's first dword: with blending on (bit 31), its factors and functions, colour before alpha, have names. */
+static inline int entry_good(uint32_t dword)
+{
+    if (dword >> 31 == 0) return 1;
+    return factor_named(dword >> 26 & 31) && factor_named(dword >> 21 & 31) && function_named(dword >> 18 & 7) &&
+           factor_named(dword >> 13 & 31) && factor_named(dword >> 8 & 31) && function_named(dword >> 5 & 7);
+}
 
 /* ---- Rows: numbers 8 to 13 ---- */
 
@@ -436,6 +451,25 @@ static APART verdict colour_calc(const struct windows *w, uint64_t base, const u
     return good_shape(s);
 }
 
+/* A leading dword and eight entries of two. */
+static APART verdict blend(const struct windows *w, uint64_t base, const uint32_t *cmd)
+{
+    const struct shape *s = &blend_shape;
+    if (!shaped(s, w, cmd)) return why_not(s, w, cmd);
+    if ((cmd[1] & 1) == 0) return good_shape(s);
+    if (base == NEVER_SET) return broken(w, BASELESS, cmd + 1);
+    struct part p = lookup(w, base + (cmd[1] & ~63u), 17 * 4);
+    if (!p.words) return broken(w, NOWHERE, cmd + 1);
+    verdict v = good_shape(s);
+    if (p.words[0] & ~0xFFF80000u) return fault(STRUCTURE_BITS, p.place);
+    for (uint32_t i = 1; i < 17; i += 2) {
+        if (p.words[i] & ~0xFFFFFFEFu) return fault(STRUCTURE_BITS, p.place + i);
+        if (p.words[i + 1] & ~0xF800001Fu) return fault(STRUCTURE_BITS, p.place + i + 1);
+        if (!entry_good(p.words[i])) v = least(v, fault(STRUCTURE_VALUE, p.place + i));
+    }
+    return v;
+}
+
 /* ---- The walk ---- */
 
 static inline struct lungevati_answer answer(verdict fault_or_0, uint64_t count)
@@ -489,6 +523,7 @@ static inline verdict plain_row(uint32_t row, const struct windows *w, uint64_t 
     case VIEWPORT: return viewport(w, base, cmd);
     case COLOUR_CALC: return colour_calc(w, base, cmd);
     case PRIMITIVE: return primitive(w, cmd);
+    case BLEND: return blend(w, base, cmd);
     default: return fault(UNKNOWN, at);
     }
 }

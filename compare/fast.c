@@ -16,7 +16,7 @@ enum { /* the refusal numbers */
 
 enum { /* the table's rows */
     NOOP, BATCH_END, BATCH_START, LOAD_IMM, STORE_IMM, STORE_REG, LOAD_REG, PIPE_CONTROL, PIPELINE_SELECT, BASE_ADDRESS,
-    VERTEX_BUFFERS, VERTEX_ELEMENTS, INDEX_BUFFER, TOPOLOGY, VIEWPORT, COLOUR_CALC, PRIMITIVE, ROWS
+    VERTEX_BUFFERS, VERTEX_ELEMENTS, INDEX_BUFFER, TOPOLOGY, VIEWPORT, COLOUR_CALC, PRIMITIVE, BLEND, ROWS
 };
 
 enum { LIMIT = 4096, BUDGET = 65536, LEVEL_1 = 1 << 12 };
@@ -74,6 +74,15 @@ static const uint8_t format_known[512] = {
 static const uint8_t register_known_at[160] = {[0 ... 3] = 1, [8] = 1, [12 ... 16] = 1, [128 ... 159] = 1};
 
 static const uint64_t topologies_known = 0xFFFFFFFF005FFFFE;
+static const uint32_t factors_named = 0x07BE07FE, functions_named = 0x1F;
+
+/* With blending on, all six codes of an entry's first dword have their bit in these words. */
+QUICK int entry_good(uint32_t word)
+{
+    uint32_t factors = factors_named >> (word >> 26 & 31) & factors_named >> (word >> 21 & 31) &
+                       factors_named >> (word >> 13 & 31) & factors_named >> (word >> 8 & 31);
+    return !(word >> 31) || (factors & functions_named >> (word >> 18 & 7) & functions_named >> (word >> 5 & 7) & 1);
+}
 
 QUICK uint32_t turned(uint32_t word, int by) { return word >> by | word << (32 - by); }
 QUICK uint64_t turned_64(uint64_t word, int by) { return word >> by | word << (64 - by); }
@@ -118,6 +127,7 @@ static const struct row {
     [COLOUR_CALC] = {0x780E0000, 0, 1, 0, 0, 1, 1, {0xFFFFFFC1}},
     [PRIMITIVE] = {0x7B000000, 0x700, 1, 5, 5, 1, 6,
                    {0x33F, 0xFFFFFFFF, 0xFFFFFFFF, 0xFFFFFFFF, 0xFFFFFFFF, 0xFFFFFFFF}},
+    [BLEND] = {0x78240000, 0, 1, 0, 0, 1, 1, {0xFFFFFFC1}},
 };
 
 static uint32_t row_of(uint32_t header)
@@ -208,10 +218,26 @@ static int is_nan(uint32_t bits) { return (bits & 0x7FFFFFFF) > 0x7F800000; }
 /* The bits of a number, so that they are in its order: the sign turns it, and both zeros are one. */
 static long ordered(uint32_t bits) { return bits >> 31 ? -(long)(bits & 0x7FFFFFFF) : (long)bits; }
 
+/* The allowed bits of a structure's dword, by the row that points to it. */
+static uint32_t structure_mask(uint32_t row, uint32_t dword)
+{
+    if (row == COLOUR_CALC && dword == 0) return 0xFFFF8001;
+    if (row == BLEND) return dword == 0 ? 0xFFF80000 : dword % 2 ? 0xFFFFFFEF : 0xF800001F;
+    return 0xFFFFFFFF;
+}
+
+/* Number 17, of a structure's dword: those before it are good. */
+static int structure_wrong(uint32_t row, const uint32_t *words, uint32_t dword)
+{
+    if (row == VIEWPORT) return is_nan(words[dword]) || (dword == 1 && ordered(words[0]) > ordered(words[1]));
+    if (row == COLOUR_CALC) return dword >= 2 && is_nan(words[dword]);
+    return dword % 2 && !entry_good(words[dword]);
+}
+
 /* Numbers 14 to 17, of the structure that dword 1 points to. */
 static verdict structure(const struct windows *w, const struct place *p, uint32_t row, const uint32_t *cmd, verdict good)
 {
-    uint32_t dwords = row == VIEWPORT ? 2 : 6;
+    uint32_t dwords = row == VIEWPORT ? 2 : row == COLOUR_CALC ? 6 : 17;
     uint64_t address = p->base + (cmd[1] & (row == VIEWPORT ? ~31u : ~63u));
     if (p->base == NEVER_SET) return fault(BASELESS, p->at + 1);
     int in_state = !inside(&w->batch, address, 4 * dwords);
@@ -219,10 +245,11 @@ static verdict structure(const struct windows *w, const struct place *p, uint32_
     if (in_state && !inside(holds, address, 4 * dwords)) return fault(NOWHERE, p->at + 1);
     uint64_t from = (address - holds->at) / 4, place = from | (in_state ? IN_STATE : 0);
     const uint32_t *words = w->words[in_state] + from;
-    if (row == COLOUR_CALC && words[0] & ~0xFFFF8001u) return fault(STRUCTURE_BITS, place);
-    for (uint32_t i = dwords == 2 ? 0 : 2; i < dwords; i++)
-        if (is_nan(words[i])) return fault(STRUCTURE_VALUE, place + i);
-    return row == VIEWPORT && ordered(words[0]) > ordered(words[1]) ? fault(STRUCTURE_VALUE, place + 1) : good;
+    for (uint32_t i = 0; i < dwords; i++)
+        if (words[i] & ~structure_mask(row, i)) return fault(STRUCTURE_BITS, place + i);
+    for (uint32_t i = 0; i < dwords; i++)
+        if (structure_wrong(row, words, i)) return fault(STRUCTURE_VALUE, place + i);
+    return good;
 }
 
 /* Numbers 6 to 17, in their order. */
@@ -243,7 +270,8 @@ APART verdict careful(const struct windows *w, const struct place *p)
     for (uint32_t i = 1; i < length; i++)
         if (range_wrong(w, row, cmd, i, (i - 1) % group + 1)) return fault(RANGE, p->at + i);
     verdict good = GOOD | row << 24 | length << 16;
-    return row == VIEWPORT || (row == COLOUR_CALC && cmd[1] & 1) ? structure(w, p, row, cmd, good) : good;
+    int reads = row == VIEWPORT || ((row == COLOUR_CALC || row == BLEND) && cmd[1] & 1);
+    return reads ? structure(w, p, row, cmd, good) : good;
 }
 
 /* ---- The quick look: each says whether a command is good that has its header and lies in the batch; if not, it may be good yet ---- */
@@ -413,6 +441,22 @@ QUICK int quick_colour_calc(const struct windows *w, uint64_t base, const uint32
     return all_zero((four)((signed_four)(load(colour + 2) & same(0x7FFFFFFF)) > (signed_four)same(0x7F800000)));
 }
 
+/* The entries are eight pairs of dwords with the same two masks, so that four dwords are two of them. */
+QUICK int quick_blend(const struct windows *w, uint64_t base, const uint32_t *cmd)
+{
+    uint64_t offset = base + (cmd[1] & ~1u) - w->state.at;
+    if (cmd[1] & 62) return 0;
+    if (!(cmd[1] & 1)) return 1;
+    if (offset >= w->state.bytes || w->state.bytes - offset < 68) return 0;
+    const uint32_t *blend = w->words[1] + offset / 4, outside = blend[0] & ~0xFFF80000u;
+    const four masks = {~0xFFFFFFEFu, ~0xF800001Fu, ~0xFFFFFFEFu, ~0xF800001Fu};
+    four all = load(blend + 1) | load(blend + 5) | load(blend + 9) | load(blend + 13);
+    if (outside || !all_zero(all & masks)) return 0;
+    int good = 1;
+    for (uint32_t i = 1; i < 17; i += 2) good &= entry_good(blend[i]);
+    return good;
+}
+
 /* ---- The walk ---- */
 
 static struct lungevati_answer answer(verdict fault_or_0, uint64_t count)
@@ -478,7 +522,7 @@ static struct lungevati_answer walk(const struct windows *w, uint32_t *records, 
         [HASH(0x7A000000)] = &&pipe_control, [HASH(0x69040000)] = &&pipeline_select, [HASH(0x61010000)] = &&base_address,
         [HASH(0x78080000)] = &&vertex_buffers, [HASH(0x78090000)] = &&vertex_elements, [HASH(0x780A0000)] = &&index_buffer,
         [HASH(0x784B0000)] = &&topology, [HASH(0x78230000)] = &&viewport, [HASH(0x780E0000)] = &&colour_calc,
-        [HASH(0x7B000000)] = &&primitive,
+        [HASH(0x7B000000)] = &&primitive, [HASH(0x78240000)] = &&blend,
     };
     uint32_t *out = records, *full = records + (room < BUDGET ? room : BUDGET);
     uint64_t from = (uint64_t)w->words[0], at = 0, end = w->batch_count, kept = 0, base = NEVER_SET, n, slot;
@@ -543,6 +587,7 @@ primitive:
     NEED(at + 7 < end);
     NEED(!(DWORD(1) & ~0x13Fu));
     TAKE(PRIMITIVE, 7);
+blend: ROW(0x78240000, BLEND, 2, quick_blend(w, base, COMMAND));
 
 other: /* a no-op with a number of its own, or whatever the quick look does not know */
     if (DWORD(0) >> 22 == 0) goto more_noops;

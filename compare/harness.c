@@ -8,7 +8,7 @@
 #include "checker.h"
 #include "streamer.h"
 
-enum { GUARD = 16, NUMBERS = 22, ROWS = 17, SECONDS = 60 };
+enum { GUARD = 16, NUMBERS = 22, ROWS = 18, SECONDS = 60 };
 
 static uint32_t lent_batch[GUARD + LENT_MOST + GUARD], lent_state[GUARD + LENT_MOST + GUARD];
 static uint8_t lent_file[GUARD + FILE_MOST + GUARD];
@@ -32,9 +32,11 @@ static const char *const words_for[NUMBERS] = {
 
 /* ---- Lent memory ---- */
 
+/* Around them stand zeros as often as anything: in other words a structure that is read over a window's end would have faults anyway. */
 static void lend_words(uint32_t *lent, const uint32_t *words, size_t len, struct dice *d)
 {
-    for (size_t i = 0; i < GUARD; i++) lent[i] = lent[GUARD + len + i] = (uint32_t)dice_roll(d);
+    uint64_t bits = dice_roll(d) >> 63 ? ~(uint64_t)0 : 0;
+    for (size_t i = 0; i < GUARD; i++) lent[i] = lent[GUARD + len + i] = (uint32_t)(dice_roll(d) & bits);
     for (size_t i = 0; i < len; i++) lent[GUARD + i] = words[i];
 }
 

@@ -14,8 +14,8 @@ void (*signal(int, void (*)(int)))(int);
 /* How often each number was answered, and where. */
 struct tally {
     uint64_t checked[22], read[22];
-    uint64_t by_row[18][22];                      /* row of the command that was refused; 17 where there is none */
-    uint64_t commands[17], shortest[17], longest[17]; /* accepted commands */
+    uint64_t by_row[19][22];                      /* row of the command that was refused; 18 where there is none */
+    uint64_t commands[18], shortest[18], longest[18]; /* accepted commands */
     uint64_t streamed, steps, stores;
 };
 

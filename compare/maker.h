@@ -9,7 +9,7 @@
 
 enum { /* the table's rows */
     NOOP, BATCH_END, BATCH_START, LOAD_IMM, STORE_IMM, STORE_REG, LOAD_REG, PIPE_CONTROL, PIPELINE_SELECT, BASE_ADDRESS,
-    VERTEX_BUFFERS, VERTEX_ELEMENTS, INDEX_BUFFER, TOPOLOGY, VIEWPORT, COLOUR_CALC, PRIMITIVE, ROWS
+    VERTEX_BUFFERS, VERTEX_ELEMENTS, INDEX_BUFFER, TOPOLOGY, VIEWPORT, COLOUR_CALC, PRIMITIVE, BLEND, ROWS
 };
 
 enum { PAGE = 4096, LIMIT = 4096, BUDGET = 65536, BLOCKS = 12, COMMANDS = 4096 };
@@ -69,11 +69,16 @@ struct table_row {
 extern const struct table_row table[ROWS];
 
 uint32_t allowed(uint32_t row, uint32_t dword);
+int reads_by_bit_0(uint32_t row); /* it points to a structure only with bit 0 of its pointer set */
+uint32_t structure_dwords(uint32_t row);
 int fieldless(uint32_t row); /* the header's low bits hold no length field */
 uint32_t good_register(void);
 uint32_t some_length(uint32_t row, uint32_t most);
 void put_address(uint32_t *low, uint64_t at);
 void emit_start(int call, uint32_t block, uint32_t to);
+
+/* Where a blend entry's first dword has its codes. */
+extern const uint32_t factors_at[4], functions_at[2];
 
 /* ---- Runs ---- */
 

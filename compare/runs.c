@@ -79,11 +79,20 @@ static uint64_t all_pages(void)
     return rounded(window(0).bytes) + rounded(window(1).bytes) + rounded(window(2).bytes);
 }
 
+/* One of the lent windows at the very top, the other at the bottom, and scratch between them. */
+static void at_both_ends(void)
+{
+    uint32_t top = below(2);
+    set_address(top, TOP - rounded(window(top).bytes) - PAGE * (uint64_t)below(3));
+    set_address(1 - top, PAGE * (uint64_t)below(4));
+    set_address(2, TOP / 2);
+}
+
 static void place_windows(void)
 {
     int gaps = one_in(2);
     uint64_t back = PAGE * (uint64_t)(1 + below(5));
-    switch (below(6)) {
+    switch (below(7)) {
     case 0:
         m.c->batch_at = 0x100000, m.c->state_at = 0x200000, m.c->scratch_at = 0x300000;
         break;
@@ -91,6 +100,7 @@ static void place_windows(void)
     case 2: in_a_row(TOP - all_pages(), 0); break;
     case 3: in_a_row(((uint64_t)1 + below(64)) * ((uint64_t)1 << 32) - back, gaps); break;
     case 4: in_a_row(0, gaps); break;
+    case 5: at_both_ends(); break;
     default: /* far apart: each in a part of its own */
         for (uint32_t i = 0; i < 3; i++)
             set_address(i, (uint64_t)i * (TOP / 4) + PAGE * (uint64_t)below(0x7FFFFFFF));
@@ -100,7 +110,13 @@ static void place_windows(void)
         if (window(i).bytes == 0 && one_in(2)) set_address(i, one_in(3) ? TOP : window(0).at + PAGE * (uint64_t)below(2));
 }
 
-/* ---- Structures: 16 dwords each hold a colour state and a depth range, or two depth ranges ---- */
+/*
+ * ---- Structures. 64 dwords hold a colour state and, behind it, a depth range; two depth ranges; a blend state, which ends with
+ * the first dword of the last sixteen; and another depth range ----
+ */
+
+int reads_by_bit_0(uint32_t row) { return row == COLOUR_CALC || row == BLEND; }
+uint32_t structure_dwords(uint32_t row) { return row == VIEWPORT ? 2 : row == COLOUR_CALC ? 6 : 17; }
 
 static uint32_t not_nan(void)
 {
@@ -132,30 +148,72 @@ static void fill_colours(uint32_t *words)
     for (int i = 2; i < 6; i++) words[i] = not_nan();
 }
 
-static int holds_colours(uint32_t index) { return index / 16 % 2 == 0; }
+const uint32_t factors_at[4] = {26, 21, 13, 8}, functions_at[2] = {18, 5};
+
+static uint32_t good_factor(void)
+{
+    static const uint32_t edges[] = {0x01, 0x0A, 0x11, 0x15, 0x17, 0x1A};
+    static const uint32_t list[] = {1, 2, 3, 4, 5, 6, 7, 8, 9, 10, 17, 18, 19, 20, 21, 23, 24, 25, 26};
+    return one_in(2) ? PICK(edges) : PICK(list);
+}
+
+/* An entry's first dword: with blending off any codes will do. */
+static uint32_t good_entry(void)
+{
+    uint32_t dword = word() & 0xFFFFFFEF;
+    if (one_in(3)) return dword & 0x7FFFFFFF;
+    dword = (dword & 0xF) | 0x80000000;
+    for (uint32_t i = 0; i < 4; i++) dword |= good_factor() << factors_at[i];
+    for (uint32_t i = 0; i < 2; i++) dword |= below(5) << functions_at[i];
+    return dword;
+}
+
+static void fill_blend(uint32_t *words)
+{
+    words[0] = word() & 0xFFF80000;
+    for (int i = 1; i < 17; i += 2) {
+        words[i] = good_entry();
+        words[i + 1] = word() & 0xF800001F;
+    }
+}
+
+enum { COLOURS, DEPTHS, BLENDS, BLENDS_END };
+static uint32_t kind_at(uint32_t index) { return index / 16 % 4; }
 
 static void fill_structures(uint32_t *words, uint32_t from, uint32_t end)
 {
     for (uint32_t i = from; i < end; i++) words[i] = word();
     for (uint32_t i = from; i < end; i += 16) {
-        if (holds_colours(i) && i + 6 <= end) fill_colours(words + i);
-        if (!holds_colours(i) && i + 2 <= end) fill_depths(words + i);
-        if (i + 10 <= end) fill_depths(words + i + 8);
+        if (kind_at(i) == COLOURS && i + 6 <= end) fill_colours(words + i);
+        if (kind_at(i) == DEPTHS && i + 2 <= end) fill_depths(words + i);
+        if (kind_at(i) == BLENDS && i + 17 <= end) fill_blend(words + i);
+        if (kind_at(i) != BLENDS && i + 10 <= end) fill_depths(words + i + 8);
     }
 }
 
-/* A structure of this kind that the base reaches: its words, and the pointer to it. */
-static uint32_t *find_structure(int colours, uint32_t *pointer)
+/* Whether a structure of the row stands there; the depth range of sixteen dwords that begin with something else stands at their middle. */
+static int stands_at(uint32_t row, uint32_t *index)
+{
+    uint32_t kind = kind_at(*index);
+    if (row == COLOUR_CALC) return kind == COLOURS;
+    if (row == BLEND) return kind == BLENDS;
+    if (kind != DEPTHS || one_in(2)) *index += 8;
+    return kind != BLENDS;
+}
+
+/* A structure of the row that the base reaches: its words, and the pointer to it. */
+static uint32_t *find_structure(uint32_t row, uint32_t *pointer)
 {
     struct capture *c = m.c;
-    uint32_t size = colours ? 6 : 2;
-    for (int tries = 0; tries < 12; tries++) {
+    uint32_t size = structure_dwords(row);
+    for (int tries = 0; tries < 24; tries++) {
         int in_state = one_in(2);
         uint32_t from = in_state ? 0 : m.data, end = (uint32_t)(in_state ? c->state_len : c->batch_len);
-        uint32_t index = from + 16 * (one_in(2) ? (end - from) / 16 : below((end - from + 15) / 16));
-        if (!colours && (holds_colours(index) || one_in(2))) index += 8;
+        if (from + size > end) continue;
+        uint32_t index = from + 16 * (one_in(2) ? (end - from - size) / 16 : below((end - from + 15) / 16));
+        int stands = stands_at(row, &index);
         uint64_t distance = (in_state ? c->state_at : c->batch_at) + 4 * index - m.base;
-        if (from >= end || index + size > end || (colours && !holds_colours(index)) || distance >> 32) continue;
+        if (!stands || index + size > end || distance >> 32) continue;
         *pointer = (uint32_t)distance;
         return (in_state ? c->state : c->batch) + index;
     }
@@ -194,6 +252,7 @@ const struct table_row table[ROWS] = {
     [VIEWPORT] = {0x78230000, 0, 2, 0, 0, {0, 0xFFFFFFE0}},
     [COLOUR_CALC] = {0x780E0000, 0, 2, 0, 0, {0, 0xFFFFFFC1}},
     [PRIMITIVE] = {0x7B000000, 0x700, 7, 0, 0, {0, 0x33F, ~0u, ~0u, ~0u, ~0u, ~0u}},
+    [BLEND] = {0x78240000, 0, 2, 0, 0, {0, 0xFFFFFFC1}},
 };
 
 uint32_t allowed(uint32_t row, uint32_t dword)
@@ -335,10 +394,10 @@ static int good_index_buffer(uint32_t *cmd)
 
 static int good_pointer(uint32_t *cmd, struct command *made)
 {
-    uint32_t used = made->row == COLOUR_CALC;
+    uint32_t used = (uint32_t)reads_by_bit_0(made->row);
     if (used && one_in(5)) return cmd[1] &= ~1u, 1; /* not used, so any pointer at all */
     if (m.aim == 14) return cmd[1] |= used, 1;
-    if (!m.has_base || !(made->structure = find_structure(made->row == COLOUR_CALC, &cmd[1]))) return 0;
+    if (!m.has_base || !(made->structure = find_structure(made->row, &cmd[1]))) return 0;
     cmd[1] |= used;
     return 1;
 }
@@ -368,7 +427,8 @@ static int good(uint32_t *cmd, struct command *made)
     case INDEX_BUFFER: return good_index_buffer(cmd);
     case TOPOLOGY: return cmd[1] = good_topology(), 1;
     case VIEWPORT:
-    case COLOUR_CALC: return good_pointer(cmd, made);
+    case COLOUR_CALC:
+    case BLEND: return good_pointer(cmd, made);
     case PRIMITIVE: return good_primitive(cmd);
     default: return 1;
     }
@@ -450,8 +510,9 @@ static uint32_t some_row(void)
 {
     static const uint8_t often[] = {NOOP, NOOP, LOAD_IMM, STORE_IMM, STORE_IMM, STORE_REG, LOAD_REG, PIPE_CONTROL,
                                     PIPE_CONTROL, PIPELINE_SELECT, BASE_ADDRESS, VERTEX_BUFFERS, VERTEX_ELEMENTS,
-                                    INDEX_BUFFER, TOPOLOGY, VIEWPORT, VIEWPORT, COLOUR_CALC, COLOUR_CALC, PRIMITIVE};
-    if (m.aim >= 14 && m.aim <= 17 && one_in(2)) return one_in(2) && m.aim != 16 ? VIEWPORT : COLOUR_CALC;
+                                    INDEX_BUFFER, TOPOLOGY, VIEWPORT, VIEWPORT, COLOUR_CALC, COLOUR_CALC, BLEND, BLEND, PRIMITIVE};
+    static const uint8_t pointers[] = {COLOUR_CALC, BLEND, VIEWPORT};
+    if (m.aim >= 14 && m.aim <= 17 && one_in(2)) return pointers[below(m.aim == 16 ? 2 : 3)];
     return PICK(often);
 }
 
@@ -528,7 +589,7 @@ void make_run(void)
     if (m.aim == 11) s.seconds++;
     if (planned < 3 * (s.mains + s.seconds) + 1) s = (struct shape){1, 0};
 
-    m.data = m.whole && planned >= 128 ? (planned - 16 * below(4)) / 16 * 16 : planned;
+    m.data = m.whole && planned >= 128 ? (planned - 16 * below(6)) / 16 * 16 : planned;
     m.limit = m.data;
     fill_structures(c->batch, m.data, planned);
     emit_blocks(s);

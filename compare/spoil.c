@@ -215,21 +215,28 @@ static int spoil_range(uint32_t *cmd, const struct command *made)
     }
 }
 
-/* A pointer to a structure that hangs over a window's end, stands just outside, or in scratch. */
+/*
+ * A pointer to a structure that hangs over a window's end, stands just outside, in scratch, or from 2^48 on, also where a sum of 48 bits
+ * would find it in a lent window again.
+ */
 static int spoil_pointer(uint32_t *cmd, const struct command *made)
 {
-    uint64_t step = made->row == VIEWPORT ? 32 : 64;
+    uint64_t step = made->row == VIEWPORT ? 32 : 64, past = TOP - m.base + (one_in(2) ? window(below(2)).at : 0);
     if (!made->structure) return 0;
-    uint32_t pointer = (uint32_t)(bad_place(step, step, m.base) - m.base);
+    uint32_t pointer = (uint32_t)(bad_place(4 * structure_dwords(made->row), step, m.base) - m.base);
+    if (past >> 32 == 0 && one_in(2)) pointer = (uint32_t)(past + step * below(8));
     cmd[1] = (one_in(8) ? word() : pointer) & ~(uint32_t)(step - 1);
-    if (made->row == COLOUR_CALC) cmd[1] |= 1;
+    if (reads_by_bit_0(made->row)) cmd[1] |= 1;
     return 1;
 }
 
 static int spoil_structure_bits(const struct command *made)
 {
-    if (made->row != COLOUR_CALC || !made->structure) return 0;
-    made->structure[0] |= 1u << (1 + below(14));
+    uint32_t dword = made->row == BLEND ? below(17) : 0, bit = below(32);
+    if (!reads_by_bit_0(made->row) || !made->structure) return 0;
+    uint32_t outside = made->row == COLOUR_CALC ? 0x7FFE : dword == 0 ? 0x7FFFF : dword % 2 ? 0x10 : 0x07FFFFE0;
+    while ((outside >> bit & 1) == 0) bit = (bit + 1) % 32;
+    made->structure[dword] |= 1u << bit;
     return 1;
 }
 
@@ -239,10 +246,22 @@ static uint32_t nan_bits(void)
     return PICK(edges);
 }
 
+/* A code without a name in one of the six fields of an entry, in most cases with blending on. */
+static int spoil_entry(uint32_t *entry)
+{
+    static const uint32_t factors[] = {0x00, 0x0B, 0x10, 0x16, 0x1B, 0x1F};
+    uint32_t at = PICK(factors_at), code = PICK(factors), all = 31;
+    if (one_in(3)) at = PICK(functions_at), code = 5 + below(3), all = 7;
+    *entry = (*entry & ~(all << at)) | code << at;
+    if (!one_in(8)) *entry |= 0x80000000;
+    return 1;
+}
+
 static int spoil_structure_value(const struct command *made)
 {
     uint32_t *words = made->structure, nan = nan_bits();
     if (!words) return 0;
+    if (made->row == BLEND) return spoil_entry(words + 1 + 2 * below(8));
     if (made->row == COLOUR_CALC) return words[2 + below(4)] = nan, 1;
     if (one_in(2)) return words[below(2)] = nan, 1;
     uint32_t first = words[0]; /* the wrong way round, unless they are equal */

@@ -1,7 +1,7 @@
 /* The plain streamer: see streamer.h. It is written for plainness; its speed hardly matters. */
 #include "streamer.h"
 
-enum { START = 2, LOAD_IMM = 3, STORE_IMM = 4, STORE_REG = 5, LOAD_REG = 6, PIPE_CONTROL = 7, ROWS = 17 };
+enum { START = 2, LOAD_IMM = 3, STORE_IMM = 4, STORE_REG = 5, LOAD_REG = 6, PIPE_CONTROL = 7, ROWS = 18 };
 
 static uint64_t mix(uint64_t x)
 {
@@ -25,7 +25,7 @@ static const struct {
     {0x10000000, 0xFF800000, 1}, {0x12000000, 0xFF800000, 1}, {0x14800000, 0xFF800000, 1}, {0x7A000000, 0xFFFF0000, 1},
     {0x69040000, 0xFFFF0000, 0}, {0x61010000, 0xFFFF0000, 1}, {0x78080000, 0xFFFF0000, 1}, {0x78090000, 0xFFFF0000, 1},
     {0x780A0000, 0xFFFF0000, 1}, {0x784B0000, 0xFFFF0000, 1}, {0x78230000, 0xFFFF0000, 1}, {0x780E0000, 0xFFFF0000, 1},
-    {0x7B000000, 0xFFFF0000, 1},
+    {0x7B000000, 0xFFFF0000, 1}, {0x78240000, 0xFFFF0000, 1},
 };
 
 uint32_t stream_row(uint32_t header)

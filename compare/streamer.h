@@ -50,7 +50,7 @@ void stream_start(struct stream *s, const uint32_t *batch, size_t batch_len, uin
 /* One command. Nothing happens unless the streamer runs. */
 void stream_step(struct stream *s);
 
-/* The table's row of a header, 17 for one that is not in the table. */
+/* The table's row of a header, 18 for one that is not in the table. */
 uint32_t stream_row(uint32_t header);
 
 #endif

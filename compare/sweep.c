@@ -84,18 +84,19 @@ static const uint32_t samples[][17] = { /* length, then the dwords */
     {2, 0x780E0000, 1},
     {7, 0x7B000005, 0x000, 0, 0, 0, 0, 0},
     {7, 0x7B000005, 0x200, 0, 0, 0, 0, 0},
+    {2, 0x78240000, 1},
 };
-enum { SAMPLES = sizeof samples / sizeof samples[0], BASE_DWORDS = 16 };
+enum { SAMPLES = sizeof samples / sizeof samples[0], BLEND_SAMPLE = SAMPLES - 1, BASE_DWORDS = 16, STATE_DWORDS = 17 };
 
 /*
  * A batch that sets the dynamic base to the state window and then has the sample; zeros behind it, up to `zeros` of them,
- * and an end. The state window has zeros, which are a depth range and a colour state.
+ * and an end. The state window has zeros, which are a depth range, a colour state and, all of them, a blend state.
  */
 static uint32_t *set_sample(uint32_t which, uint32_t zeros)
 {
     usual_windows();
-    c.state_len = 16;
-    for (uint32_t i = 0; i < 16; i++) c.state[i] = 0;
+    c.state_len = STATE_DWORDS;
+    for (uint32_t i = 0; i < STATE_DWORDS; i++) c.state[i] = 0;
     for (uint32_t i = 0; i < BASE_DWORDS; i++) c.batch[i] = samples[11][1 + i];
     uint32_t *cmd = c.batch + BASE_DWORDS, length = samples[which][0];
     for (uint32_t i = 0; i < length + zeros; i++) cmd[i] = i < length ? samples[which][1 + i] : 0;
@@ -198,7 +199,7 @@ static int sweep_primitive(void)
 
 static int sweep_address(uint32_t sample, uint32_t dword)
 {
-    static const uint64_t edges[] = {0x100000, 0x200000, 0x300000, 0x301000, 0x200040, 0, (uint64_t)1 << 48, 0x100000000};
+    static const uint64_t edges[] = {0x100000, 0x200000, 0x300000, 0x301000, 0x200044, 0, (uint64_t)1 << 48, 0x100000000};
     for (uint32_t i = 0; i < 8; i++)
         for (uint64_t off = 0; off < 40; off += 4) {
             uint32_t *cmd = set_sample(sample, 0);
@@ -214,8 +215,8 @@ static int sweep_address(uint32_t sample, uint32_t dword)
 
 static int sweep_range(uint32_t sample, uint32_t dword, uint32_t size_dword)
 {
-    static const uint64_t edges[] = {0x100000, 0x200000, 0x300000, 0x301000, 0x200040, 0, (uint64_t)1 << 48, 0x100000000};
-    static const uint32_t sizes[] = {0, 1, 2, 3, 4, 63, 64, 65, 4095, 4096, 4097, 0xFFFFFFFF};
+    static const uint64_t edges[] = {0x100000, 0x200000, 0x300000, 0x301000, 0x200044, 0, (uint64_t)1 << 48, 0x100000000};
+    static const uint32_t sizes[] = {0, 1, 2, 3, 4, 67, 68, 69, 4095, 4096, 4097, 0xFFFFFFFF};
     for (uint32_t i = 0; i < 8 * 12 * 5; i++) {
         uint32_t *cmd = set_sample(sample, 0);
         uint64_t at = edges[i % 8] + i / 96 - 2;
@@ -261,6 +262,65 @@ static int sweep_structures(void)
     return 1;
 }
 
+/*
+ * A blend state whose entries all have blending on and all codes 1 or 0, in the state window or behind the batch's end; gives back
+ * its dwords, to be changed.
+ */
+static uint32_t *set_blend(int in_batch)
+{
+    uint32_t *cmd = set_sample(BLEND_SAMPLE, 0), *blend = in_batch ? c.batch + 32 : c.state;
+    if (in_batch) {
+        c.batch[6] = 0x00100001, cmd[1] = 0x81;
+        for (size_t i = c.batch_len; i < 32; i++) c.batch[i] = 0;
+        c.batch_len = 32 + 17;
+    }
+    for (uint32_t i = 0; i < 17; i++) blend[i] = i % 2 ? 0x84202100 : 0;
+    return blend;
+}
+
+/*
+ * Every bit of every dword: alone, and turned in a good one, of which an entry is wrong besides, or none. A bit goes first, wherever
+ * it stands.
+ */
+static int sweep_blend_bits(int in_batch)
+{
+    for (uint32_t bit = 0; bit < 17 * 32; bit++) {
+        uint32_t *blend = set_blend(in_batch);
+        for (uint32_t i = 0; i < 17; i++) blend[i] = 0;
+        blend[bit / 32] = 1u << bit % 32;
+        if (!try_it()) return 0;
+        for (uint32_t wrong = 0; wrong <= 8; wrong++) { /* the entry that is wrong, from 1 on */
+            blend = set_blend(in_batch);
+            if (wrong) blend[2 * wrong - 1] |= 0xE0;
+            blend[bit / 32] ^= 1u << bit % 32;
+            if (!try_it()) return 0;
+        }
+    }
+    return 1;
+}
+
+/* Every code in each of the six fields of each entry, with blending on and off, in it and in those before it. */
+static int sweep_blend_codes(int in_batch)
+{
+    static const uint32_t fields[6][2] = {{26, 32}, {21, 32}, {18, 8}, {13, 32}, {8, 32}, {5, 8}};
+    for (uint32_t i = 0; i < 8 * 6 * 32 * 3; i++) {
+        const uint32_t *field = fields[i / 8 % 6];
+        uint32_t code = i / 48 % 32, on = i / 48 / 32, entry = i % 8, *blend = set_blend(in_batch);
+        if (code >= field[1]) continue;
+        for (uint32_t k = on == 2 ? 0 : entry; k <= entry; k++) {
+            blend[1 + 2 * k] = (blend[1 + 2 * k] & ~((field[1] - 1) << field[0])) | code << field[0];
+            if (on == 0 || k < entry) blend[1 + 2 * k] &= 0x7FFFFFFF;
+        }
+        if (!try_it()) return 0;
+    }
+    return 1;
+}
+
+static int sweep_blends(void)
+{
+    return sweep_blend_bits(0) && sweep_blend_bits(1) && sweep_blend_codes(0) && sweep_blend_codes(1);
+}
+
 /* Pointers about both lent windows, from bases near and far, with state windows of every length up to a structure's end. */
 static int sweep_pointers(uint32_t sample)
 {
@@ -269,7 +329,7 @@ static int sweep_pointers(uint32_t sample)
         uint32_t *cmd = set_sample(sample, 0);
         uint64_t base = bases[i % 7];
         c.state_len = i / 7 % 18;
-        c.state[16] = c.state[17] = 0;
+        c.state[17] = 0;
         c.batch[6] = (uint32_t)base | 1, c.batch[7] = (uint32_t)(base >> 32);
         cmd[1] = (uint32_t)(0x200000 - base + 32 * (i / 126) - 64) | (samples[sample][2] & 1);
         if (!try_it()) return 0;
@@ -402,6 +462,6 @@ int sweep(struct tally *t)
 {
     tally = t;
     return sweep_cases() && sweep_samples() && sweep_lengths() && sweep_codes() && sweep_primitive() && sweep_addresses() &&
-           sweep_structures() && sweep_pointers(16) && sweep_pointers(17) && sweep_windows() && sweep_many() &&
-           sweep_files();
+           sweep_structures() && sweep_blends() && sweep_pointers(16) && sweep_pointers(17) && sweep_pointers(BLEND_SAMPLE) &&
+           sweep_windows() && sweep_many() && sweep_files();
 }

@@ -7,6 +7,7 @@ ghost use Rattle.rules.specs.Uses.{startUse, storeUse, storeRegisterUse, loadRe
 use rules::Access;
 use rules::Within;
 use rules::names::BASE_ROW;
+use rules::names::BLEND_ROW;
 use rules::names::COLOUR_ROW;
 use rules::names::END_ROW;
 use rules::names::INDEX_BUFFER_ROW;
@@ -154,6 +155,7 @@ pub fn access_of(row: usize, command: &[u32], k: usize, j: usize) -> Access
         VIEWPORT_ROW => Access::Unused,
         COLOUR_ROW => Access::Unused,
         PRIMITIVE_ROW => Access::Unused,
+        BLEND_ROW => Access::Unused,
         _ => Access::Unused,
     }
 }

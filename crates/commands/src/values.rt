@@ -7,6 +7,7 @@ ghost use Rattle.rules.specs.Formats.{surfaceFormats};
 ghost use Rattle.rules.specs.Values.{startRule, registerRule, storeRule, pipeRule, vertexBufferRule, indexBufferRule, topologyRule, primitiveRule};
 ghost use Rattle.rules.specs.Values.{afterZero, componentsWrong, vertexElementRule, ruleOf};
 use rules::names::BASE_ROW;
+use rules::names::BLEND_ROW;
 use rules::names::COLOUR_ROW;
 use rules::names::END_ROW;
 use rules::names::INDEX_BUFFER_ROW;
@@ -206,6 +207,7 @@ pub fn value_wrong(row: usize, command: &[u32], k: usize, j: usize, formats: &[u
         VIEWPORT_ROW => false,
         COLOUR_ROW => false,
         PRIMITIVE_ROW => primitive_wrong(command, j, word),
+        BLEND_ROW => false,
         _ => false,
     }
 }

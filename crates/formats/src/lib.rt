@@ -1,9 +1,10 @@
-// What is known of codes: surface formats, topologies and registers.
+// What is known of codes: surface formats, topologies, registers, and the factors and functions of a blend.
 ghost use mathlib.Core.Path.{_≡_};
-ghost use mathlib.Core.Bool.{not};
-ghost use lib.Dec.{eqb};
+ghost use mathlib.Core.Bool.{not, _&&_};
+ghost use lib.Dec.{eqb, ltb};
 ghost use lib.ListN.{getD};
-ghost use Rattle.rules.specs.Formats.{between, knownTopology, knownRegister};
+ghost use Rattle.rules.specs.Words.{bit};
+ghost use Rattle.rules.specs.Formats.{between, knownTopology, knownRegister, namedFactor, namedFunction};
 
 // The entry of the table of surface formats for a code; 0 past its end. The table is lent: a constant that is named here would be
 // copied for each code.
@@ -51,4 +52,25 @@ pub fn known_register(register: u32) -> bool
         }
         _ => register % 4 == 0 && between(0x2600, 0x267C, register),
     }
+}
+
+// Whether a word with a bit for each code, the lowest code in bit 0, has that of the code; it has none for a code of 64 or more.
+fn bit_of(word: u64, code: u32) -> bool
+    ensures { λ r. ⌜ r ≡ (ltb code 64 && bit word code) ⌝ }
+{
+    code < 64 && (word >> code) & 1 == 1
+}
+
+// Whether document 000 names the blend factor. As a word the test is short enough to be asked of eight entries in a row.
+pub fn named_factor(code: u32) -> bool
+    ensures { λ r. ⌜ r ≡ namedFactor code ⌝ }
+{
+    bit_of(0x07BE_07FE, code)
+}
+
+// Whether document 000 names the blend function.
+pub fn named_function(code: u32) -> bool
+    ensures { λ r. ⌜ r ≡ namedFunction code ⌝ }
+{
+    code <= 4
 }

@@ -1,6 +1,6 @@
 -- Rows of one length with no value rule and no address: 10 is all that can be wrong with their dwords.
 -- Assumes nothing.
-use Prim.Native.Nat.{ℕ, _+_, _%_, _≤_}
+use Prim.Native.Nat.{ℕ, _+_, _%_, _≤_, _<_}
 use native.Mathlib.Omega.{arith}
 use mathlib.Core.Path.{_≡_, refl, sym, ap, _∙_}
 use mathlib.Core.Bool.{Bool, true, false, cond, not}
@@ -14,7 +14,7 @@ use Rattle.rules.specs.declared.Level.the-variants.{First}
 use Rattle.rules.specs.declared.Reason.the-variants.{BitNotAllowed}
 use Rattle.rules.specs.Words.{allowed, inGroup, firstFrom}
 use Rattle.rules.specs.Refusals.{numberOf}
-use Rattle.rules.specs.Commands.{exactly, theRow, rowOf, spot, groupSize}
+use Rattle.rules.specs.Commands.{exactly, Row, rowCount, theRow, rowOf, spot, groupSize}
 use Rattle.rules.specs.Masks.{headerMask, masksOf, allowedOf, allowedAt, bitWrong}
 use Rattle.rules.specs.Uses.{noUse, accessOf}
 use Rattle.rules.specs.Values.{Rule, noRule, ruleOf, valueWrong}
@@ -54,6 +54,23 @@ pub record PointerRow (r header mask : ℕ) : Type 0 where
   pub no-use : accessOf r ≡ noUse
   pub kept : allowed header (headerMask (theRow r)) ≡ true
   pub masks : theRow r .masks ≡ mask ∷ []
+
+-- such a row, by its line in the table
+pub points : {r header mask : ℕ} → r < rowCount → theRow r ≡ record { key = header; free = 0; total = exactly 0; masks = mask ∷ [] }
+    → header % 256 ≡ 0 → ruleOf r ≡ noRule → accessOf r ≡ noUse → allowed header (headerMask (theRow r)) ≡ true → PointerRow r header mask
+points {header = header} known line short rule uses kept = record {
+  one = record {
+    known = known;
+    total = ap (λ (w : Row). w .total) line ∙ ap exactly (sym short);
+    key = ap (λ (w : Row). w .key) line ∙ omega arith;
+    free = ap (λ (w : Row). w .free) line;
+  };
+  short = short;
+  no-rule = rule;
+  no-use = uses;
+  kept = kept;
+  masks = ap (λ (w : Row). w .masks) line;
+}
 
 module _ {r header mask : ℕ} (g : PointerRow r header mask) (w : Windows) (rest : List ℕ) where
   total : theRow r .total ≡ exactly 0

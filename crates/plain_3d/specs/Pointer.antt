@@ -1,4 +1,4 @@
--- A command of a header and one dword that has to keep a mask: rows 14 and 15.
+-- A command of a header and one dword that has to keep a mask: rows 14, 15 and 17.
 use Prim.Native.Nat.{ℕ, _*_, _+_}
 use mathlib.Core.Bool.{cond, not}
 use mathlib.Core.List.{List}

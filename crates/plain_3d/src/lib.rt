@@ -14,6 +14,7 @@ use plain_mi::type_0;
 use rules::Level;
 use rules::Windows;
 use rules::names::BASE_ROW;
+use rules::names::BLEND_ROW;
 use rules::names::COLOUR_ROW;
 use rules::names::END_ROW;
 use rules::names::INDEX_BUFFER_ROW;
@@ -119,6 +120,7 @@ fn seen_of_type_3(batch: &[u32], at: usize, w: Windows) -> Seen
         0x7823 => found(VIEWPORT_ROW, 2, type_3::viewport(from(batch, at))),
         0x780E => found(COLOUR_ROW, 2, type_3::colour(from(batch, at))),
         0x7B00 => found(PRIMITIVE_ROW, 7, type_3::primitive(from(batch, at))),
+        0x7824 => found(BLEND_ROW, 2, type_3::blend(from(batch, at))),
         _ => found(ROWS, 1, numbers::at(numbers::UNKNOWN, 0)),
     }
 }

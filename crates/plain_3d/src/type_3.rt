@@ -1,4 +1,4 @@
-// Rows 7 to 16, the commands of type 3, in the table's order: each row's rules in the order of their numbers, beside document 01's words.
+// Rows 7 to 17, the commands of type 3, in the table's order: each row's rules in the order of their numbers, beside the words of document 01 and of the requests.
 ghost use mathlib.Core.Path.{_≡_};
 ghost use mathlib.Core.Bool.{true, not, false};
 ghost use mathlib.Core.List.{[], _∷_};
@@ -8,7 +8,7 @@ ghost use Rattle.rules.specs.declared.Level.the-variants.{First};
 ghost use Rattle.rules.specs.declared.Reason.the-variants.{BitNotAllowed, ValueBroken};
 ghost use Rattle.rules.specs.Words.{bit, allowed};
 ghost use Rattle.rules.specs.Refusals.{batchWindow, refuseFound};
-ghost use Rattle.rules.specs.Commands.{pipeRow, selectRow, baseRow, indexBufferRow, topologyRow, viewportRow, colourRow, primitiveRow, rowOf, vertexBuffersRow, vertexElementsRow};
+ghost use Rattle.rules.specs.Commands.{pipeRow, selectRow, baseRow, indexBufferRow, topologyRow, viewportRow, colourRow, primitiveRow, blendRow, rowOf, vertexBuffersRow, vertexElementsRow};
 ghost use Rattle.rules.specs.Uses.{postSync};
 ghost use Rattle.rules.specs.Values.{valueWrong, componentsWrong};
 ghost use Rattle.plain_mi.specs.Plain.{coded, firstCoded, firstBy, wrongOf, bareOf, noWindows, cleanFrom, Groups, GroupAt};
@@ -486,7 +486,7 @@ pub fn colour(rest: &[u32]) -> usize
     pointer(rest, 0x780E_0000, 0xFFFF_FFC1)
 }
 
-// A row of a header and one dword, which has to keep a mask.
+// A row of a header and one dword, which has to keep a mask: 14, 15 and 17.
 fn pointer(rest: &[u32], header: u32, mask: u32) -> usize
     requires { ⌜ (0 < length (now rest)) × (header % 256 ≡ 0) ⌝ }
     ensures { λ r. ⌜ r ≡ pointerOf (now (rest .entry)) header mask ⌝ }
@@ -546,4 +546,13 @@ fn primitive_by_end(header: u32, rest: &[u32]) -> usize
         return at(VALUE, 6);
     }
     NOTHING
+}
+
+// 17: 3DSTATE_BLEND_STATE_POINTERS.
+pub fn blend(rest: &[u32]) -> usize
+    requires { ⌜ (0 < length (now rest)) × (rowOf (getD (now rest) 0 0) ≡ blendRow) ⌝ }
+    ensures { λ r. ⌜ r ≡ bareOf blendRow (now (rest .entry)) ⌝ }
+{
+    // 8, 9, 10: "78240000h", "FFFFFFC1h"
+    pointer(rest, 0x7824_0000, 0xFFFF_FFC1)
 }

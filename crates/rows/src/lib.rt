@@ -12,6 +12,7 @@ mod masks;
 
 use masks::MASKS;
 use rules::names::BASE_ROW;
+use rules::names::BLEND_ROW;
 use rules::names::COLOUR_ROW;
 use rules::names::END_ROW;
 use rules::names::INDEX_BUFFER_ROW;
@@ -52,6 +53,7 @@ fn row_of_type_3(key: u32) -> usize
         0x7823 => VIEWPORT_ROW,
         0x780E => COLOUR_ROW,
         0x7B00 => PRIMITIVE_ROW,
+        0x7824 => BLEND_ROW,
         _ => ROWS,
     }
 }
@@ -110,6 +112,7 @@ pub fn group_size(row: usize) -> usize
         VIEWPORT_ROW => 1,
         COLOUR_ROW => 1,
         PRIMITIVE_ROW => 6,
+        BLEND_ROW => 1,
         _ => 0,
     }
 }
@@ -157,6 +160,7 @@ pub fn length_right(row: usize, header: u32) -> bool
         VIEWPORT_ROW => field == 0,
         COLOUR_ROW => field == 0,
         PRIMITIVE_ROW => field == 5,
+        BLEND_ROW => field == 0,
         _ => true,
     }
 }

@@ -30,7 +30,7 @@ use Rattle.rules.specs.declared.Reason.the-variants.{FileSize, FileDista
 use Rattle.rules.specs.Words.{bit, some, someTwo, firstOf}
 use Rattle.rules.specs.Refusals.{batchWindow, stateWindow, fault, refuseIf, refuseFound, tried, firstFault}
 use Rattle.rules.specs.Windows.{Capture, Lengths, windowLimit, listed, countsWrong, unaligned, endsTooHigh, shareByte, windowChecks, windowFault, lent, holds, holdsDwords, heldAt}
-use Rattle.rules.specs.Commands.{rows, rowCount, theRow, lengthOf, lengthRight}
+use Rattle.rules.specs.Commands.{exactly, rows, rowCount, theRow, lengthOf, lengthRight}
 use Rattle.rules.specs.Structures.{Asked, askedAt, layoutOf, nowhere, heldWindow, heldFrom, structureNowhere, structureBit, structureValue, structureChecks}
 use Rattle.rules.specs.Step.{here, headerAt, rowAt, lengthAt, dwordsAt, pointerOf, nested, baseMissing, pointed}
 use Rattle.rules.specs.Step.{ranOff, unknownHeader, wrongLength, pastTheWindow, bitNotAllowed, nestedStart, valueBroken}
@@ -113,21 +113,23 @@ module _ (bAt b sAt t address n : ℕ) {i : ℕ} where
       by false true p q = omega (arith, holds-count sAt t address n p, same-state q)
       by false false p q = absurd (let z : _≡_ {A = ℕ} 0 1 = cc in omega arith)
 
--- only rows 14 and 15 point to a structure, and both have two dwords
-picked : (a b : Bool) (x y : Pointer) {kind : Kind} {offset : ℕ} → cond a x (cond b y NoPointer) ≡ PointsTo kind offset
-    → (a ≡ true) ⊎ (b ≡ true)
-picked true b x y e = inl refl
-picked false true x y e = inr refl
-picked false false x y e = absurd (let z : _≡_ {A = ℕ} 0 1 = cc in omega arith)
+-- only rows 14, 15 and 17 point to a structure, and each has two dwords
+arm : {A : Type 0} (t : Bool) (x : Pointer) {rest : Pointer} {kind : Kind} {offset : ℕ}
+    → (t ≡ true → A) → (rest ≡ PointsTo kind offset → A) → cond t x rest ≡ PointsTo kind offset → A
+arm true x this others e = this refl
+arm false x this others e = others e
 
-long : (r header : ℕ) → (r ≡ 14) ⊎ (r ≡ 15) → 1 < lengthOf r header
-unfolding rows theRow lengthOf
-long r header (inl e) = rw e (omega arith)
-long r header (inr e) = rw e (omega arith)
+long : (r n header : ℕ) → theRow n .total ≡ exactly 0 → r ≡ n → 1 < lengthOf r header
+unfolding lengthOf
+long r n header t e = rw (e, t) (omega arith)
 
 two-long : (r header : ℕ) (d : List ℕ) {kind : Kind} {offset : ℕ} → pointerOf r d ≡ PointsTo kind offset → 1 < lengthOf r header
-unfolding pointerOf
-two-long r header d e = long r header (⊎-elim (λ q. inl (eqb-true r 14 q)) (λ q. inr (eqb-true r 15 (and-left (eqb r 15) _ q))) (picked (eqb r 14) (eqb r 15 && bit (getD d 1 0) 0) _ _ e))
+unfolding rows theRow pointerOf
+two-long r header d =
+    arm (eqb r 14) _ (λ q. long r 14 header refl (eqb-true r 14 q))
+    (arm (eqb r 15 && bit (getD d 1 0) 0) _ (λ q. long r 15 header refl (eqb-true r 15 (and-left (eqb r 15) _ q)))
+    (arm (eqb r 17 && bit (getD d 1 0) 0) _ (λ q. long r 17 header refl (eqb-true r 17 (and-left (eqb r 17) _ q)))
+    (λ e. absurd (let z : _≡_ {A = ℕ} 0 1 = cc in omega arith))))
 
 none-fails : {A : Type 0} (a : A) {f : Fault} → firstFault {A = A} [] a ≡ Fails f → ⊥
 unfolding tried

@@ -5,7 +5,7 @@ use Prim.Native.Nat.{ℕ}
 use mathlib.Core.Path.{_≡_, refl, sym, ap}
 use mathlib.Core.List.{List, []}
 use Rattle.rules.specs.declared.Kind.{Kind}
-use Rattle.rules.specs.declared.Kind.the-variants.{Viewport, ColourCalc}
+use Rattle.rules.specs.declared.Kind.the-variants.{Viewport, ColourCalc, Blend}
 use Rattle.rules.specs.declared.Fault.{Fault}
 use Rattle.rules.specs.declared.Verdict.{Verdict}
 use Rattle.rules.specs.declared.Verdict.the-variants.{Pass, Fails}
@@ -19,12 +19,14 @@ pub reading-says : (v : Verdict) (kind : Kind) (d : List ℕ) → verdictOf (rea
 unfolding verdictOf
 reading-says Pass Viewport d = refl
 reading-says Pass ColourCalc d = refl
+reading-says Pass Blend d = refl
 reading-says (Fails f) kind d = refl
 
 reading-told : (v : Verdict) (kind : Kind) (d : List ℕ) → readingTold (readingOf v kind d) ≡ told v (floatsOf (valuesOf kind d))
 unfolding verdictOf told
 reading-told Pass Viewport d = refl
 reading-told Pass ColourCalc d = refl
+reading-told Pass Blend d = refl
 reading-told (Fails f) kind d = refl
 
 -- the promise of the structure read, from the equation of its answer

@@ -4,15 +4,15 @@ use Prim.Native.Nat.{ℕ, zero, suc, _≤_, _<_}
 use native.Mathlib.Nat.{le-of-suc-le-suc, eq-or-lt-of-le}
 use native.Mathlib.Omega.{arith}
 use mathlib.Core.Path.{_≡_, refl, sym, ap, _∙_}
-use mathlib.Core.Bool.{Bool, true, false, cond, not, _&&_, _||_}
+use mathlib.Core.Bool.{Bool, true, false, cond, not, _&&_, _||_, and-false}
 use mathlib.Core.List.{List, [], _∷_}
 use mathlib.Core.Logic.{_⊎_, ⊎-elim}
 use lib.ListN.{length, getD}
-use lib.Dec.{leb, eqb}
-use borrow.Author.Tests.{leb-true, eqb-true, ne-eqb, lt-ltb, not-false}
-use Rattle.rules.specs.Words.{field, cleared, some}
+use lib.Dec.{leb, ltb, eqb}
+use borrow.Author.Tests.{leb-true, leb-false, ltb-true, ltb-false, eqb-true, ne-eqb, lt-ltb, lt-leb, not-false}
+use Rattle.rules.specs.Words.{bit, field, cleared, some}
 use Rattle.rules.specs.Commands.{Row, rows, rowCount, keyOf, rowFrom, rowOf, theRow}
-use Rattle.rules.specs.Formats.{surfaceFormats, formatBits, blockBits, blockRule}
+use Rattle.rules.specs.Formats.{surfaceFormats, formatBits, blockBits, blockRule, between, blendFactors, blendFunctions, namedFactor, namedFunction}
 use Rattle.rules.proofs.Searching.{some-left, some-right, or-cases, and-left, and-right}
 
 -- a test passes at each number below n
@@ -51,6 +51,71 @@ pub format-blocks : (code : ℕ) → code < 0x0C0 → formatBits code ≡ blockB
 format-blocks code h =
     let r = and-right (leb (formatBits code) 256) _ (block-rule code (omega arith)) in
     eqb-true _ _ (ap (λ t. cond t (eqb (formatBits code) (blockBits code)) true) (sym (lt-ltb code 0x0C0 h)) ∙ r)
+
+-- the codes that document 000 names, as ranges: 01h..0Ah, 11h..15h and 17h..1Ah of all 32 factors, and 0..4 of all 8 functions
+abbrev pub factorRange : ℕ → Bool
+factorRange code = between 0x01 0x0A code || (between 0x11 0x15 code || between 0x17 0x1A code)
+
+unfoldable pub same : Bool → Bool → Bool
+same true b = b
+same false b = not b
+
+same-is : (a b : Bool) → same a b ≡ true → a ≡ b
+unfolding same
+same-is true true e = refl
+same-is true false e = sym e
+same-is false true e = e
+same-is false false e = refl
+
+-- a code above all of a list is not in it
+pub past-listed : (most code : ℕ) (codes : List ℕ) → some (λ k. leb most k) codes ≡ false → most ≤ code → some (eqb code) codes ≡ false
+unfolding some
+past-listed most code [] t h = refl
+past-listed most code (k ∷ codes) t h =
+    let l = leb-false most k (some-left (leb most k) _ t) in
+    rw (ne-eqb code k (λ e. omega arith)) (past-listed most code codes (some-right (leb most k) _ t) h)
+
+-- two tests that agree below a number, which is computed, and from there on, which is a law of the two
+module _ (a b : ℕ → Bool) (n : ℕ) (t : each (λ k. same (a k) (b k)) n ≡ true) (p : (k : ℕ) → n ≤ k → a k ≡ b k) where
+  everywhere : (k : ℕ) → a k ≡ b k
+  everywhere k = by (ltb k n) refl
+    where
+      by : (l : Bool) → ltb k n ≡ l → a k ≡ b k
+      by true e = same-is _ _ (at-each (λ k. same (a k) (b k)) n t k (ltb-true k n e))
+      by false e = p k (ltb-false k n e)
+
+-- a word with a bit for each of the codes below 64 that are known, where none above is
+pub in-word : (word : ℕ) (known : ℕ → Bool) → each (λ k. same (bit word k) (known k)) 64 ≡ true → ((k : ℕ) → 64 ≤ k → known k ≡ false)
+    → (code : ℕ) → (ltb code 64 && bit word code) ≡ known code
+in-word word known t p code = by (ltb code 64) refl
+  where
+    by : (l : Bool) → ltb code 64 ≡ l → (l && bit word code) ≡ known code
+    by true e = same-is _ _ (at-each (λ k. same (bit word k) (known k)) 64 t code (ltb-true code 64 e))
+    by false e = sym (p code (ltb-false code 64 e))
+
+factors-tested : each (λ code. same (namedFactor code) (factorRange code)) 32 ≡ true
+unfolding each some blendFactors namedFactor same
+factors-tested = refl
+
+factors-past : (code : ℕ) → 32 ≤ code → namedFactor code ≡ factorRange code
+unfolding some blendFactors namedFactor
+factors-past code h =
+    past-listed 32 code blendFactors refl h
+    ∙ sym (simp (lt-leb code 0x0A (omega arith), lt-leb code 0x15 (omega arith), lt-leb code 0x1A (omega arith), and-false))
+
+pub factor-named : (code : ℕ) → namedFactor code ≡ factorRange code
+factor-named = everywhere namedFactor factorRange 32 factors-tested factors-past
+
+functions-tested : each (λ code. same (namedFunction code) (leb code 4)) 8 ≡ true
+unfolding each some blendFunctions namedFunction same
+functions-tested = refl
+
+functions-past : (code : ℕ) → 8 ≤ code → namedFunction code ≡ leb code 4
+unfolding some blendFunctions namedFunction
+functions-past code h = past-listed 8 code blendFunctions refl h ∙ sym (lt-leb code 4 (omega arith))
+
+pub function-named : (code : ℕ) → namedFunction code ≡ leb code 4
+function-named = everywhere namedFunction (λ code. leb code 4) 8 functions-tested functions-past
 
 -- each row's key is found as that row, so no key stands twice
 keys-tested : each (λ r. eqb (rowOf (theRow r .key)) r) rowCount ≡ true

@@ -7,11 +7,11 @@ use Rattle.rules.specs.Windows.{windowsOf, countsWrong, windowChecks, wi
 use Rattle.rules.specs.Commands.{rows, theRow, keyOf, rowFrom, rowOf, lengthOf, groupSize, lengthRight}
 use Rattle.rules.specs.Uses.{usesByRow, accessOf, accessAt, addressAt}
 use Rattle.rules.specs.Masks.{masksOf, allowedOf, allowedAt, bitWrong}
-use Rattle.rules.specs.Formats.{surfaceFormats, formatBits, knownTopology, knownRegister}
+use Rattle.rules.specs.Formats.{surfaceFormats, formatBits, knownTopology, knownRegister, blendFactors, blendFunctions, namedFactor, namedFunction}
 use Rattle.rules.specs.Values.{componentsWrong, valueRules, ruleOf, valueWrong}
 use Rattle.rules.specs.Addresses.{rangeWrong}
-use Rattle.rules.specs.Structures.{layoutOf, structureMask, structureBitWrong, depthWrong, colourWrong, structureValueWrong, structureNowhere, structureBit}
-use Rattle.rules.specs.Structures.{structureValue, structureChecks, readAt, verdictOf}
+use Rattle.rules.specs.Structures.{layoutOf, structureMask, structureBitWrong, depthWrong, colourWrong, structureValueWrong}
+use Rattle.rules.specs.Structures.{entryWrong, blendWrong, structureNowhere, structureBit, structureValue, structureChecks, readAt, verdictOf}
 use Rattle.rules.specs.Step.{dwordsAt, pointerOf, budgetSpent, ranOff, unknownHeader, wrongLength, pastTheWindow, bitNotAllowed, nestedStart, valueBroken}
 use Rattle.rules.specs.Step.{rangeOutside, baseNeverSet, recordsFull, stepChecks, checks, afterEnd, baseAfter, moveOf, commandAt, stepOf}
 use Rattle.rules.specs.Walk.{trace, cut, walk, commandsOf, endOf, answerOf}
@@ -27,11 +27,11 @@ unfolding rows theRow keyOf rowFrom rowOf lengthOf groupSize lengthRight address
 commandsPage = 0
 
 unfoldable pub valuesPage : ℕ
-unfolding surfaceFormats formatBits knownTopology knownRegister componentsWrong valueRules ruleOf valueWrong rangeWrong
+unfolding surfaceFormats formatBits knownTopology knownRegister blendFactors blendFunctions namedFactor namedFunction componentsWrong valueRules ruleOf valueWrong rangeWrong
 valuesPage = 0
 
 unfoldable pub structuresPage : ℕ
-unfolding ofBits nanBits le holdsDwords heldAt partOf layoutOf structureMask structureBitWrong depthWrong colourWrong structureValueWrong
+unfolding ofBits nanBits le holdsDwords heldAt partOf layoutOf structureMask structureBitWrong depthWrong colourWrong entryWrong blendWrong structureValueWrong
 structuresPage = 0
 
 unfoldable pub readingPage : ℕ

@@ -37,7 +37,7 @@ abbrev pub fourWords : List ℕ
 fourWords = 0xEEEEE001 ∷ 0xEEEEE002 ∷ 0xEEEEE003 ∷ 0xEEEEE004 ∷ []
 
 -- a line of the table, "C", "Batch", "Answer"; every case has its place in window 0
-abbrev case : ℕ → List ℕ → List ℕ → ℕ → ℕ → ℕ → List ℕ → Case
+abbrev pub case : ℕ → List ℕ → List ℕ → ℕ → ℕ → ℕ → List ℕ → Case
 case number batch before reason index count records =
     record { number = number; batch = batch; before = before; reason = reason; window = 0; index = index; count = count; records = records }
 

@@ -75,9 +75,13 @@ colourRow = 15
 abbrev pub primitiveRow : ℕ
 primitiveRow = 16
 
--- the table's column "Row": how many there are
+-- request 1: "3DSTATE_BLEND_STATE_POINTERS .. Make it row 17"
+abbrev pub blendRow : ℕ
+blendRow = 17
+
+-- the table's column "Row", with row 17 of request 1: how many there are
 abbrev pub rowCount : ℕ
-rowCount = 17
+rowCount = 18
 
 -- the table's column "Header", what it says of the length: "the field in bits 7:0"
 pub data Length : Type 0 where
@@ -152,6 +156,8 @@ rows =
     ∷ row 0x780E0000 0 (exactly 0) (0xFFFFFFC1 ∷ [])
     -- 16 3DPRIMITIVE
     ∷ row 0x7B000000 (bits 10 8) (exactly 5) (0x0000033F ∷ anyDword ∷ anyDword ∷ anyDword ∷ anyDword ∷ anyDword ∷ [])
+    -- 17 3DSTATE_BLEND_STATE_POINTERS: "header 78240000h, one dword allowing FFFFFFC1h"
+    ∷ row 0x78240000 0 (exactly 0) (0xFFFFFFC1 ∷ [])
     ∷ []
 
 -- the rows are as many as they are said to be

@@ -1,4 +1,4 @@
--- What is known of codes: document 01's lists of formats, topologies and registers.
+-- What is known of codes: document 01's lists of formats, topologies and registers, and document 000's blend factors and functions.
 use Prim.Native.Nat.{ℕ, _%_}
 use mathlib.Core.Bool.{Bool, true, cond, _&&_, _||_}
 use mathlib.Core.List.{List, [], _∷_}
@@ -74,3 +74,46 @@ registers = 0x2400 ∷ 0x2404 ∷ 0x2408 ∷ 0x240C ∷ 0x2420 ∷ 0x2430 ∷ 0x
 -- "register is .., or a multiple of 4 in 2600h..267Ch": asked of an offset
 unfoldable pub knownRegister : ℕ → Bool
 knownRegister r = some (eqb r) registers || (eqb (r % 4) 0 && between 0x2600 0x267C r)
+
+-- request 1: "each blend factor .. must be a named code in document 000", 3D_Color_Buffer_Blend_Factor; each code with its line there. What that page
+-- calls Reserved, and what it does not list, is not named.
+unfoldable pub blendFactors : List ℕ
+blendFactors =
+    0x01  -- 000:93 01h BLENDFACTOR_ONE
+    ∷ 0x02  -- 000:94 02h BLENDFACTOR_SRC_COLOR
+    ∷ 0x03  -- 000:95 03h BLENDFACTOR_SRC_ALPHA
+    ∷ 0x04  -- 000:96 04h BLENDFACTOR_DST_ALPHA
+    ∷ 0x05  -- 000:97 05h BLENDFACTOR_DST_COLOR
+    ∷ 0x06  -- 000:98 06h BLENDFACTOR_SRC_ALPHA_SATURATE
+    ∷ 0x07  -- 000:99 07h BLENDFACTOR_CONST_COLOR
+    ∷ 0x08  -- 000:100 08h BLENDFACTOR_CONST_ALPHA
+    ∷ 0x09  -- 000:101 09h BLENDFACTOR_SRC1_COLOR
+    ∷ 0x0A  -- 000:102 0Ah BLENDFACTOR_SRC1_ALPHA
+    ∷ 0x11  -- 000:104 11h BLENDFACTOR_ZERO
+    ∷ 0x12  -- 000:105 12h BLENDFACTOR_INV_SRC_COLOR
+    ∷ 0x13  -- 000:106 13h BLENDFACTOR_INV_SRC_ALPHA
+    ∷ 0x14  -- 000:107 14h BLENDFACTOR_INV_DST_ALPHA
+    ∷ 0x15  -- 000:108 15h BLENDFACTOR_INV_DST_COLOR
+    ∷ 0x17  -- 000:110 17h BLENDFACTOR_INV_CONST_COLOR
+    ∷ 0x18  -- 000:111 18h BLENDFACTOR_INV_CONST_ALPHA
+    ∷ 0x19  -- 000:112 19h BLENDFACTOR_INV_SRC1_COLOR
+    ∷ 0x1A  -- 000:113 1Ah BLENDFACTOR_INV_SRC1_ALPHA
+    ∷ []
+
+-- request 1: "each blend factor and function must be a named code in document 000", 3D_Color_Buffer_Blend_Function; each code with its line there
+unfoldable pub blendFunctions : List ℕ
+blendFunctions =
+    0  -- 000:120 0 BLENDFUNCTION_ADD
+    ∷ 1  -- 000:121 1 BLENDFUNCTION_SUBTRACT
+    ∷ 2  -- 000:122 2 BLENDFUNCTION_REVERSE_SUBTRACT
+    ∷ 3  -- 000:123 3 BLENDFUNCTION_MIN
+    ∷ 4  -- 000:124 4 BLENDFUNCTION_MAX
+    ∷ []
+
+-- "a named code", of a factor
+unfoldable pub namedFactor : ℕ → Bool
+namedFactor code = some (eqb code) blendFactors
+
+-- "a named code", of a function
+unfoldable pub namedFunction : ℕ → Bool
+namedFunction code = some (eqb code) blendFunctions

@@ -15,3 +15,4 @@ pub mod File
 pub mod Printout
 pub mod Book
 pub mod Cases
+pub mod BlendCases

@@ -14,7 +14,7 @@ use Rattle.rules.specs.declared.After.{After}
 use Rattle.rules.specs.declared.After.the-variants.{Ends, To}
 use Rattle.rules.specs.declared.Outcome.{Outcome}
 use Rattle.rules.specs.declared.Outcome.the-variants.{Taken, Refused}
-use Rattle.rules.specs.declared.Kind.the-variants.{Viewport, ColourCalc}
+use Rattle.rules.specs.declared.Kind.the-variants.{Viewport, ColourCalc, Blend}
 use Rattle.rules.specs.declared.Pointer.{Pointer}
 use Rattle.rules.specs.declared.Pointer.the-variants.{NoPointer, PointsTo}
 use Rattle.rules.specs.declared.Reason.{Reason}
@@ -26,7 +26,7 @@ use Rattle.rules.specs.declared.Reason.the-variants.{RangeOutside, BaseN
 use Rattle.rules.specs.Words.{bit, field, cleared, firstOf}
 use Rattle.rules.specs.Refusals.{batchWindow, fault, refuseIf, refuseFound, firstFault}
 use Rattle.rules.specs.Windows.{Capture, windowsOf, dwordOf}
-use Rattle.rules.specs.Commands.{endRow, startRow, baseRow, viewportRow, colourRow, rowCount, rowOf, lengthOf, lengthRight}
+use Rattle.rules.specs.Commands.{endRow, startRow, baseRow, viewportRow, colourRow, blendRow, rowCount, rowOf, lengthOf, lengthRight}
 use Rattle.rules.specs.Masks.{bitWrong}
 use Rattle.rules.specs.Uses.{addressAt}
 use Rattle.rules.specs.Values.{valueWrong}
@@ -58,11 +58,13 @@ lengthAt batch at = lengthOf (rowAt batch at) (headerAt batch at)
 unfoldable pub dwordsAt : List ℕ → ℕ → List ℕ
 dwordsAt batch at = take (lengthAt batch at) (drop at batch)
 
--- "Rows 14, and 15 with bit 0 set, read a structure"; "Address is dynamic base plus pointer (low bits masked off)"
+-- "Rows 14, and 15 with bit 0 set, read a structure"; "Address is dynamic base plus pointer (low bits masked off)". Request 1, of row 17: "bit 0 as in
+-- row 15"
 unfoldable pub pointerOf : ℕ → List ℕ → Pointer
 pointerOf r d =
     cond (eqb r viewportRow) (PointsTo Viewport (cleared (getD d 1 0) 5))
-    (cond (eqb r colourRow && bit (getD d 1 0) 0) (PointsTo ColourCalc (cleared (getD d 1 0) 6)) NoPointer)
+    (cond (eqb r colourRow && bit (getD d 1 0) 0) (PointsTo ColourCalc (cleared (getD d 1 0) 6))
+    (cond (eqb r blendRow && bit (getD d 1 0) 0) (PointsTo Blend (cleared (getD d 1 0) 6)) NoPointer))
 
 -- 14: "dynamic state base never set", of a command that reads a structure
 abbrev pub baseMissing : Pointer → Base → Bool

@@ -29,7 +29,7 @@ postSync d = field (getD d 1 0) 15 14
 abbrev pub Uses : Type 0
 Uses = List ℕ → ℕ → ℕ → ℕ → Access
 
--- "Address rules (13)" names no address of rows 0, 1, 3, 8, 9, 11 and 13 to 16
+-- "Address rules (13)" names no address of rows 0, 1, 3, 8, 9, 11 and 13 to 16, and request 1 none of row 17
 abbrev pub noUse : Uses
 noUse d k j w = Unused
 
@@ -81,8 +81,8 @@ usesByRow =
     ∷ pipeUse ∷ noUse ∷ noUse
     -- 10 3DSTATE_VERTEX_BUFFERS, 11 3DSTATE_VERTEX_ELEMENTS, 12 3DSTATE_INDEX_BUFFER
     ∷ vertexBufferUse ∷ noUse ∷ indexBufferUse
-    -- 13 to 16 use none
-    ∷ noUse ∷ noUse ∷ noUse ∷ noUse ∷ []
+    -- 13 to 17 use none
+    ∷ noUse ∷ noUse ∷ noUse ∷ noUse ∷ noUse ∷ []
 
 -- a line for each row of the table
 pub a-use-a-row : length usesByRow ≡ rowCount

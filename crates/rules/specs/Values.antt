@@ -15,7 +15,7 @@ use Rattle.rules.specs.Uses.{eightBytes, postSync}
 abbrev pub Rule : Type 0
 Rule = List ℕ → ℕ → ℕ → ℕ → Bool
 
--- "Value rules (12)" has no line for rows 0, 1, 8, 9, 14 and 15
+-- "Value rules (12)" has no line for rows 0, 1, 8, 9, 14 and 15, and request 1 has none for row 17
 abbrev pub noRule : Rule
 noRule d k j w = false
 
@@ -83,8 +83,8 @@ valueRules =
     ∷ pipeRule ∷ noRule ∷ noRule
     -- 10 3DSTATE_VERTEX_BUFFERS, 11 3DSTATE_VERTEX_ELEMENTS, 12 3DSTATE_INDEX_BUFFER, 13 3DSTATE_VF_TOPOLOGY
     ∷ vertexBufferRule ∷ vertexElementRule ∷ indexBufferRule ∷ topologyRule
-    -- 14 3DSTATE_VIEWPORT_STATE_POINTERS_CC, 15 3DSTATE_CC_STATE_POINTERS, 16 3DPRIMITIVE
-    ∷ noRule ∷ noRule ∷ primitiveRule ∷ []
+    -- 14 3DSTATE_VIEWPORT_STATE_POINTERS_CC, 15 3DSTATE_CC_STATE_POINTERS, 16 3DPRIMITIVE, 17 3DSTATE_BLEND_STATE_POINTERS
+    ∷ noRule ∷ noRule ∷ primitiveRule ∷ noRule ∷ []
 
 -- a line for each row of the table
 pub a-rule-a-row : length valueRules ≡ rowCount

@@ -82,10 +82,11 @@ pub enum Held {
     Nowhere,
 }
 
-// The two structures that a command can point to.
+// The structures that a command can point to.
 pub enum Kind {
     Viewport,
     ColourCalc,
+    Blend,
 }
 
 // Whether a command points to a structure: which, and how many bytes above the dynamic state base.
@@ -94,10 +95,11 @@ pub enum Pointer {
     PointsTo(Kind, u32),
 }
 
-// What reading a structure gives back: a depth range, a colour state, or its refusal.
+// What reading a structure gives back: a depth range, a colour state, a blend state, which has no floats, or its refusal.
 pub enum Reading {
     Depths(f32, f32),
     Colour(f32, f32, f32, f32),
+    Blending,
     Unreadable(Fault),
 }
 

@@ -1,4 +1,4 @@
-// The rows of document 01's command table by name, in its order, and how many there are.
+// The rows of document 01's command table and of request 1 by name, in the table's order, and how many there are.
 pub const NOOP_ROW: usize = 0;
 
 pub const END_ROW: usize = 1;
@@ -33,4 +33,6 @@ pub const COLOUR_ROW: usize = 15;
 
 pub const PRIMITIVE_ROW: usize = 16;
 
-pub const ROWS: usize = 17;
+pub const BLEND_ROW: usize = 17;
+
+pub const ROWS: usize = 18;

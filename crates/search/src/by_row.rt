@@ -15,6 +15,7 @@ use crate::first_wrong;
 use rules::Found;
 use rules::Windows;
 use rules::names::BASE_ROW;
+use rules::names::BLEND_ROW;
 use rules::names::COLOUR_ROW;
 use rules::names::END_ROW;
 use rules::names::INDEX_BUFFER_ROW;
@@ -63,6 +64,7 @@ pub fn first_bit(
         VIEWPORT_ROW => first_wrong(bits, w, VIEWPORT_ROW, command, masks, formats),
         COLOUR_ROW => first_wrong(bits, w, COLOUR_ROW, command, masks, formats),
         PRIMITIVE_ROW => first_wrong(bits, w, PRIMITIVE_ROW, command, masks, formats),
+        BLEND_ROW => first_wrong(bits, w, BLEND_ROW, command, masks, formats),
         _ => Found::Nothing,
     }
 }
@@ -97,6 +99,7 @@ pub fn first_value(
         VIEWPORT_ROW => Found::Nothing,
         COLOUR_ROW => Found::Nothing,
         PRIMITIVE_ROW => first_wrong(values, w, PRIMITIVE_ROW, command, masks, formats),
+        BLEND_ROW => Found::Nothing,
         _ => Found::Nothing,
     }
 }
@@ -131,6 +134,7 @@ pub fn first_range(
         VIEWPORT_ROW => Found::Nothing,
         COLOUR_ROW => Found::Nothing,
         PRIMITIVE_ROW => Found::Nothing,
+        BLEND_ROW => Found::Nothing,
         _ => Found::Nothing,
     }
 }

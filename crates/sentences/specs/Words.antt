@@ -41,7 +41,7 @@ reasonTable =
 abbrev pub reasonWords : ℕ → List ℕ
 reasonWords reason = wordsIn reasonTable reason
 
--- the commands of document 01's table, by row
+-- the commands of document 01's table, and of request 1, by row
 unfoldable pub commandTable : List String
 commandTable =
     "MI_NOOP"
@@ -61,6 +61,7 @@ commandTable =
     ∷ "3DSTATE_VIEWPORT_STATE_POINTERS_CC"
     ∷ "3DSTATE_CC_STATE_POINTERS"
     ∷ "3DPRIMITIVE"
+    ∷ "3DSTATE_BLEND_STATE_POINTERS"
     ∷ []
 
 abbrev pub commandWords : ℕ → List ℕ
@@ -73,7 +74,7 @@ accessTable =
     ∷ "" ∷ "store to" ∷ "store to" ∷ "load from"
     ∷ "store to" ∷ "" ∷ ""
     ∷ "vertex buffer of" ∷ "" ∷ "index buffer of"
-    ∷ "" ∷ "" ∷ "" ∷ "" ∷ []
+    ∷ "" ∷ "" ∷ "" ∷ "" ∷ "" ∷ []
 
 abbrev pub accessWords : ℕ → List ℕ
 accessWords row = wordsIn accessTable row

@@ -54,6 +54,7 @@ const COMMANDS: [[u8; 64]; ROWS] = [
     *b"3DSTATE_VIEWPORT_STATE_POINTERS_CC                              ",
     *b"3DSTATE_CC_STATE_POINTERS                                       ",
     *b"3DPRIMITIVE                                                     ",
+    *b"3DSTATE_BLEND_STATE_POINTERS                                    ",
 ];
 
 // What the command of a row does with its address; most have none.
@@ -71,6 +72,7 @@ const ACCESSES: [[u8; 64]; ROWS] = [
     *b"vertex buffer of                                                ",
     *b"                                                                ",
     *b"index buffer of                                                 ",
+    *b"                                                                ",
     *b"                                                                ",
     *b"                                                                ",
     *b"                                                                ",

@@ -1,16 +1,20 @@
-// Reading a state structure: a depth range, a colour state, or why there is none.
+// Reading a state structure: a depth range, a colour state, a blend state, or why there is none.
 ghost use mathlib.Core.Path.{_≡_};
 ghost use mathlib.Core.Bool.{false, cond};
 ghost use mathlib.Core.List.{[], _∷_};
-ghost use Prim.Native.Nat.{_+_, _-_, _^_, _<_};
+ghost use Prim.Native.Nat.{_+_, _-_, _^_, _≤_, _<_};
 ghost use lib.Dec.{leb};
 ghost use lib.ListN.{getD};
 ghost use Rattle.rules.specs.declared.Found.the-variants.{Nothing};
 ghost use Rattle.rules.specs.Words.{firstOf, inGroup};
 ghost use Rattle.rules.specs.Refusals.{fault, firstFault};
-ghost use Rattle.structures.specs.Table.{groupDwords, outside};
+ghost use Rattle.structures.specs.Table.{outside};
 ghost use Rattle.rules.specs.Structures.{layoutOf, structureBitWrong, structureValueWrong, depthWrong, colourWrong, single, isNan, atMost};
 ghost use Rattle.rules.specs.Structures.{nowhere, heldWindow, heldFrom, structureChecks, valuesOf, StructureRead};
+
+mod blend;
+
+use blend::first_entry;
 use rules::Fault;
 use rules::Found;
 use rules::Held;
@@ -24,15 +28,18 @@ use words::dwords::dword;
 // The sign of a value, the highest of its bits.
 const SIGN: u32 = 0x8000_0000;
 
-// How many dwords the group has that follows a structure's leading dword.
-const GROUP: usize = 1;
+// The most dwords that a group has, of those that follow a structure's leading dword.
+const GROUP: usize = 2;
 
-// The table of allowed bits: a structure's number by a dword's number in it, that of the leading dword first, then those of the group.
-const STRUCTURE_MASKS: [[u32; GROUP + 1]; 2] = [
+// The table of allowed bits: a structure's number by a dword's number in it, that of the leading dword first, then those of the group;
+// past a group's last dword nothing is allowed.
+const STRUCTURE_MASKS: [[u32; GROUP + 1]; 3] = [
     // CC_VIEWPORT
-    [0xFFFF_FFFF, 0xFFFF_FFFF],
+    [0xFFFF_FFFF, 0xFFFF_FFFF, 0x0000_0000],
     // COLOR_CALC_STATE
-    [0xFFFF_8001, 0xFFFF_FFFF],
+    [0xFFFF_8001, 0xFFFF_FFFF, 0x0000_0000],
+    // BLEND_STATE
+    [0xFFF8_0000, 0xFFFF_FFEF, 0xF800_001F],
 ];
 
 fn dwords_of(kind: Kind) -> usize
@@ -41,6 +48,7 @@ fn dwords_of(kind: Kind) -> usize
     match kind {
         Kind::Viewport => 2,
         Kind::ColourCalc => 6,
+        Kind::Blend => 17,
     }
 }
 
@@ -59,23 +67,25 @@ fn value(d: &[u32], k: usize) -> f32
     f32::from_bits(dword(d, k))
 }
 
-// Which of a structure's masks is that of its dword k.
-fn in_group(k: usize) -> usize
-    ensures { λ r. ⌜ (r ≡ inGroup groupDwords k) × (r < 2) ⌝ }
+// Which of a structure's masks is that of its dword k, by how many dwords its group has.
+fn in_group(size: usize, k: usize) -> usize
+    requires { ⌜ (0 < size) × (size ≤ 2) ⌝ }
+    ensures { λ r. ⌜ (r ≡ inGroup size k) × (r < 3) ⌝ }
 {
     if k == 0 {
         return 0;
     }
-    1 + (k - 1) % GROUP
+    1 + (k - 1) % size
 }
 
-// The first of n dwords with a bit that these masks do not allow.
-fn first_outside(masks: &[u32; GROUP + 1], d: &[u32], n: usize) -> Found
-    ensures { λ r. ⌜ r ≡ firstOf (outside (now (masks .entry)) (now (d .entry))) n ⌝ }
+// The first of n dwords with a bit that these masks do not allow, where one dword leads and groups of this size follow.
+fn first_outside(masks: &[u32; GROUP + 1], size: usize, d: &[u32], n: usize) -> Found
+    requires { ⌜ (0 < size) × (size ≤ 2) ⌝ }
+    ensures { λ r. ⌜ r ≡ firstOf (outside (now (masks .entry)) size (now (d .entry))) n ⌝ }
 {
     let mut k = 0;
     while k < n {
-        if !words::allowed(dword(d, k), masks[in_group(k)]) {
+        if !words::allowed(dword(d, k), masks[in_group(size, k)]) {
             return Found::At(k);
         }
         k += 1;
@@ -89,8 +99,9 @@ fn first_bit(kind: Kind, d: &[u32]) -> Found
 {
     let masks = STRUCTURE_MASKS;
     match kind {
-        Kind::Viewport => first_outside(&masks[0], d, dwords_of(Kind::Viewport)),
-        Kind::ColourCalc => first_outside(&masks[1], d, dwords_of(Kind::ColourCalc)),
+        Kind::Viewport => first_outside(&masks[0], 1, d, dwords_of(Kind::Viewport)),
+        Kind::ColourCalc => first_outside(&masks[1], 1, d, dwords_of(Kind::ColourCalc)),
+        Kind::Blend => first_outside(&masks[2], 2, d, dwords_of(Kind::Blend)),
     }
 }
 
@@ -165,6 +176,7 @@ fn first_value(kind: Kind, d: &[u32]) -> Found
     match kind {
         Kind::Viewport => first_depth(dword(d, 0), dword(d, 1)),
         Kind::ColourCalc => first_colour(d),
+        Kind::Blend => first_entry(d),
     }
 }
 
@@ -239,6 +251,7 @@ fn values(kind: Kind, d: &[u32]) -> Reading
     match kind {
         Kind::Viewport => Reading::Depths(value(d, 0), value(d, 1)),
         Kind::ColourCalc => Reading::Colour(value(d, 2), value(d, 3), value(d, 4), value(d, 5)),
+        Kind::Blend => Reading::Blending,
     }
 }
 

@@ -58,6 +58,7 @@ seen-of-type-3-spec =
     (λ c κs. search needs) (λ c κs. lent-to (c .before .before .before .before) (c .before .match .keys8) refl (c .from7 .ensures)) (λ c κs. search needs)
     (λ c κs. search needs) (λ c κs. lent-to (c .before .before .before .before) (c .before .match .keys9) refl (c .from8 .ensures)) (λ c κs. search needs)
     (λ c κs. search needs) (λ c κs. lent-to (c .before .before .before .before) (c .before .match .keys10) refl (c .from9 .ensures)) (λ c κs. search needs)
+    (λ c κs. search needs) (λ c κs. lent-to (c .before .before .before .before) (c .before .match .keys11) refl (c .from10 .ensures)) (λ c κs. search needs)
     (λ c κs. search needs) (λ c κs. search needs)
     (λ c.
     within (c .before .before .before .before .before .before) (c .before .before .before .match .keys1) refl (lit< tt) _ (c .found .ensures) (c .before .before .from .ensures)
@@ -91,7 +92,10 @@ seen-of-type-3-spec =
     alone (c .before .before .before .before .before .before) (c .before .before .before .match .keys10) refl (lit< tt) _ (c .found10 .ensures) (c .before .before .from9 .ensures)
     (exactly-long 16 _ 5 refl) (c .before .primitive .ensures) refl)
     (λ c.
+    alone (c .before .before .before .before .before .before) (c .before .before .before .match .keys11) refl (lit< tt) _ (c .found11 .ensures) (c .before .before .from10 .ensures)
+    (exactly-long 17 _ 0 refl) (c .before .blend .ensures) refl)
+    (λ c.
     let k = c .before .before in
     let s = k .before .before .before in
     sees-nothing _ (now (s .args .batch)) (s .args .at) First _
-    (unknown-3 (headerAt (now (s .args .batch)) (s .args .at) / 2 ^ 16) (k .match .rest) ∙ sym (s .pre .1)) (c .found11 .ensures .2 ∙ c .before .at .ensures)))
+    (unknown-3 (headerAt (now (s .args .batch)) (s .args .at) / 2 ^ 16) (k .match .rest) ∙ sym (s .pre .1)) (c .found12 .ensures .2 ∙ c .before .at .ensures)))

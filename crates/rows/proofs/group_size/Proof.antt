@@ -14,5 +14,5 @@ group-size-spec =
     (λ c. rw (c .match .keys5)) (λ c. rw (c .match .keys6)) (λ c. rw (c .match .keys7)) (λ c. rw (c .match .keys8))
     (λ c. rw (c .match .keys9)) (λ c. rw (c .match .keys10)) (λ c. rw (c .match .keys11)) (λ c. rw (c .match .keys12))
     (λ c. rw (c .match .keys13)) (λ c. rw (c .match .keys14)) (λ c. rw (c .match .keys15)) (λ c. rw (c .match .keys16))
-    (λ c. rw (c .match .keys17))
+    (λ c. rw (c .match .keys17)) (λ c. rw (c .match .keys18))
     (λ c. size-past _ (past rowCount _ (c .match .rest))))

@@ -30,4 +30,5 @@ length-right-spec =
     (λ c. rw (c .match .keys15) (right-exactly 14 _ 0 refl))
     (λ c. rw (c .match .keys16) (right-exactly 15 _ 0 refl))
     (λ c. rw (c .match .keys17) (right-exactly 16 _ 5 refl))
+    (λ c. rw (c .match .keys18) (right-exactly 17 _ 0 refl))
     (λ c. right-past _ _ (past rowCount _ (c .match .rest))))

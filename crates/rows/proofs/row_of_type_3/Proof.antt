@@ -12,5 +12,5 @@ row-of-type-3-spec =
     (tie.spec
     (λ c. rw (c .match .keys1)) (λ c. rw (c .match .keys2)) (λ c. rw (c .match .keys3)) (λ c. rw (c .match .keys4))
     (λ c. rw (c .match .keys5)) (λ c. rw (c .match .keys6)) (λ c. rw (c .match .keys7)) (λ c. rw (c .match .keys8))
-    (λ c. rw (c .match .keys9)) (λ c. rw (c .match .keys10))
+    (λ c. rw (c .match .keys9)) (λ c. rw (c .match .keys10)) (λ c. rw (c .match .keys11))
     (λ c. unknown-3 _ (c .match .rest)))

@@ -13,18 +13,18 @@ use Rattle.structures.proofs.first_outside.Statement.{statement}
 use Rattle.structures.proofs.first_outside.Tie as tie
 
 abbrev Inv-loop : tie.InvT-loop
-Inv-loop masks d n k₀ k = (k ≤ n) × (firstOf (outside masks d) n ≡ firstFrom (outside masks d) k (n - k))
+Inv-loop masks size d n k₀ k = (k ≤ n) × (firstOf (outside masks size d) n ≡ firstFrom (outside masks size d) k (n - k))
 
 abbrev μ-loop : tie.MeasureT-loop
-μ-loop masks d n k₀ k = n - k
+μ-loop masks size d n k₀ k = n - k
 
 loop-holds : tie.Need-loop-holds Inv-loop μ-loop
 loop-holds c = (search needs, from-the-start _ _)
 
 seen : (c : tie.After-allowed Inv-loop μ-loop)
     → let l = c .before .before .before .before .before in
-    outside (now (l .before .before .args .masks)) (now (l .before .before .args .d)) (l .loop .k) ≡ not (c .allowed .result)
-seen c = bit-at _ _ _ (c .before .before .before .dword .ensures) (c .before .before .in-group .ensures .0) (c .allowed .ensures)
+    outside (now (l .before .before .args .masks)) (l .before .before .args .size) (now (l .before .before .args .d)) (l .loop .k) ≡ not (c .allowed .result)
+seen c = bit-at _ _ _ _ (c .before .before .before .dword .ensures) (c .before .before .in-group .ensures .0) (c .allowed .ensures)
 
 returns : tie.Need-returns Inv-loop μ-loop
 returns c =

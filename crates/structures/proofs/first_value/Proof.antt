@@ -17,8 +17,12 @@ returns-2 : tie.Need-returns-2
 unfolding layoutOf structureValueWrong
 returns-2 c = rw (c .before .enum-told2 .given .1) (c .first-colour .ensures)
 
+returns-3 : tie.Need-returns-3
+unfolding layoutOf structureValueWrong
+returns-3 c = rw (c .before .enum-told3 .given .1) (c .first-entry .ensures)
+
 pub first-value-spec : {M : Type 1} → statement M
 first-value-spec =
     tie.close
     (tie.spec (λ c. search needs) (λ c κs. search needs) (λ c κs. search needs) (λ c κs. search needs) (λ c. search needs)
-    (λ c κs. search needs) returns returns-2)
+    (λ c κs. search needs) (λ c. search needs) (λ c κs. search needs) returns returns-2 returns-3)

@@ -36,8 +36,11 @@ returns-2 c =
       c .value6 .ensures,
     )
 
+returns-3 : tie.Need-returns-3
+returns-3 c = rw (c .enum-told3 .given .1)
+
 pub values-spec : {M : Type 1} → statement M
 values-spec =
     tie.close
     (tie.spec (λ c. search needs) value-requires value-requires-2 (λ c. search needs) value-requires-3 value-requires-4 value-requires-5
-    value-requires-6 returns returns-2)
+    value-requires-6 (λ c. search needs) returns returns-2 returns-3)

@@ -34,4 +34,5 @@ access-of-spec =
     (λ c. rw (c .match .keys15))
     (λ c. rw (c .match .keys16))
     (λ c. rw (c .match .keys17))
+    (λ c. rw (c .match .keys18))
     (λ c. no-access _ _ _ _ _ (past rowCount _ (c .match .rest))))

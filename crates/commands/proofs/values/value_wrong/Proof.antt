@@ -34,4 +34,5 @@ value-wrong-spec =
     (λ c. rw (c .match .keys15))
     (λ c. rw (c .match .keys16))
     (λ c. rw (c .before .match .keys17) (c .primitive-wrong .ensures))
+    (λ c. rw (c .match .keys18))
     (λ c. no-rule _ _ _ _ _ (past rowCount _ (c .match .rest))))

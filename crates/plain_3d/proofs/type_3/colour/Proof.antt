@@ -7,20 +7,13 @@ use Rattle.rules.specs.Commands.{colourRow, rows, theRow}
 use Rattle.rules.specs.Uses.{usesByRow, accessOf}
 use Rattle.rules.specs.Values.{valueRules, ruleOf}
 use Rattle.plain_mi.specs.Plain.{noWindows}
-use Rattle.plain_3d.proofs.BitsOnly.{PointerRow, pointer-decides}
+use Rattle.plain_3d.proofs.BitsOnly.{PointerRow, points, pointer-decides}
 use Rattle.plain_3d.proofs.type_3.colour.Statement.{statement}
 use Rattle.plain_3d.proofs.type_3.colour.Tie as tie
 
 colour-row : PointerRow colourRow 0x780E0000 0xFFFFFFC1
 unfolding rows theRow valueRules ruleOf usesByRow accessOf allowed
-colour-row = record {
-  one = record { known = lit≤ tt; total = refl; key = refl; free = refl };
-  short = refl;
-  no-rule = refl;
-  no-use = refl;
-  kept = refl;
-  masks = refl;
-}
+colour-row = points (lit≤ tt) refl refl refl refl refl
 
 pub colour-spec : {M : Type 1} → statement M
 colour-spec =

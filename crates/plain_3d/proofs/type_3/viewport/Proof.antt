@@ -7,20 +7,13 @@ use Rattle.rules.specs.Commands.{viewportRow, rows, theRow}
 use Rattle.rules.specs.Uses.{usesByRow, accessOf}
 use Rattle.rules.specs.Values.{valueRules, ruleOf}
 use Rattle.plain_mi.specs.Plain.{noWindows}
-use Rattle.plain_3d.proofs.BitsOnly.{PointerRow, pointer-decides}
+use Rattle.plain_3d.proofs.BitsOnly.{PointerRow, points, pointer-decides}
 use Rattle.plain_3d.proofs.type_3.viewport.Statement.{statement}
 use Rattle.plain_3d.proofs.type_3.viewport.Tie as tie
 
 viewport-row : PointerRow viewportRow 0x78230000 0xFFFFFFE0
 unfolding rows theRow valueRules ruleOf usesByRow accessOf allowed
-viewport-row = record {
-  one = record { known = lit≤ tt; total = refl; key = refl; free = refl };
-  short = refl;
-  no-rule = refl;
-  no-use = refl;
-  kept = refl;
-  masks = refl;
-}
+viewport-row = points (lit≤ tt) refl refl refl refl refl
 
 pub viewport-spec : {M : Type 1} → statement M
 viewport-spec =

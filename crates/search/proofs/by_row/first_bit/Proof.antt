@@ -29,6 +29,7 @@ first-bit-spec =
     (λ c κs. written-out (c .match .keys15) (c .before .before .pre))
     (λ c κs. written-out (c .match .keys16) (c .before .before .pre))
     (λ c κs. written-out (c .match .keys17) (c .before .before .pre))
+    (λ c κs. written-out (c .match .keys18) (c .before .before .pre))
     -- and what it finds, in the table's order
     (λ c. rw (c .before .match .keys1) (c .first-wrong .ensures))
     (λ c. rw (c .before .match .keys2) (c .first-wrong2 .ensures))
@@ -47,4 +48,5 @@ first-bit-spec =
     (λ c. rw (c .before .match .keys15) (c .first-wrong15 .ensures))
     (λ c. rw (c .before .match .keys16) (c .first-wrong16 .ensures))
     (λ c. rw (c .before .match .keys17) (c .first-wrong17 .ensures))
+    (λ c. rw (c .before .match .keys18) (c .first-wrong18 .ensures))
     (λ c. absurd (omega (arith, past rowCount _ (c .match .rest), c .before .before .pre .0))))

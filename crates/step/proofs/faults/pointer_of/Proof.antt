@@ -1,33 +1,36 @@
--- `step::faults::pointer_of` meets its contract: the tests of the code are those of the definition.
+-- `step::faults::pointer_of` meets its contract: an arm for each row that points, and no other does.
 -- Assumes nothing.
-use native.Mathlib.Nat.{div-one}
+use native.Mathlib.Omega.{arith}
 use Rattle.rules.specs.Step.{pointerOf}
-use borrow.Author.Tests.{eq-eqb, ne-eqb}
+use borrow.Author.Tests.{ne-eqb}
 use borrow.Author.Needs.{needs}
 use Rattle.step.proofs.faults.pointer_of.Statement.{statement}
 use Rattle.step.proofs.faults.pointer_of.Tie as tie
 
-viewport : tie.Need-returns
+below : tie.Need-returns
 unfolding pointerOf
-viewport c = simp (← c .dword .ensures, eq-eqb _ _ (c .before .if1 .taken))
+below c =
+    let row = c .before .before .args .row in
+    let low = c .if1 .taken in
+    simp (ne-eqb row 14 (λ e. omega arith), ne-eqb row 15 (λ e. omega arith), ne-eqb row 17 (λ e. omega arith))
 
-no-pointer : tie.Need-returns-2
+viewport : tie.Need-returns-2
 unfolding pointerOf
-no-pointer c = simp (ne-eqb _ _ (c .if2 .taken), ne-eqb _ _ (c .before .if1 .left))
+viewport c = rw (c .match .keys1, c .before .dword .ensures)
 
-colour-off : tie.Need-returns-3
+colour : tie.Need-returns-3
 unfolding pointerOf
-colour-off c =
-    let colour = c .before .before in
-    simp (ne-eqb _ _ (c .if3 .taken), ← c .before .dword2 .ensures, eq-eqb _ _ (colour .if2 .left), ne-eqb _ _ (colour .before .if1 .left), div-one)
+colour c = let row = c .before in rw (row .match .keys2, ← row .before .dword .ensures) (c .pointed .ensures)
 
-colour-on : tie.Need-returns-4
+blend : tie.Need-returns-4
 unfolding pointerOf
-colour-on c =
-    let colour = c .before .before in
-    simp (eq-eqb _ _ (c .if3 .left), ← c .before .dword2 .ensures, eq-eqb _ _ (colour .if2 .left), ne-eqb _ _ (colour .before .if1 .left), div-one)
+blend c = let row = c .before in rw (row .match .keys3, ← row .before .dword .ensures) (c .pointed2 .ensures)
+
+no-pointer : tie.Need-returns-5
+unfolding pointerOf
+no-pointer c = let others = c .match .rest in simp (ne-eqb _ _ (others .0 .0 .1), ne-eqb _ _ (others .0 .1), ne-eqb _ _ (others .1))
 
 pub pointer-of-spec : {M : Type 1} → statement M
 pointer-of-spec =
     tie.close
-    (tie.spec (λ c κs. search needs) (λ c. search needs) viewport no-pointer (λ c κs. search needs) colour-off (λ c. search needs) colour-on)
+    (tie.spec below (λ c κs. search needs) (λ c. search needs) (λ c κs. search needs) (λ c κs. search needs) viewport colour blend no-pointer)
