@@ -115,6 +115,14 @@ static void make_registers(void)
     put_end();
 }
 
+/* Every known topology in turn, the low codes and the high ones. */
+static void make_topologies(void)
+{
+    for (uint32_t code = 1; batch_len + 2 < LIMIT; code = code % 0x3F + 1)
+        if (code <= 0x14 || code == 0x16 || code >= 0x20) PUT(0x784B0000, code);
+    put_end();
+}
+
 static void make_small(void)
 {
     PUT(0);
@@ -132,7 +140,7 @@ static const struct {
     void (*make)(void);
 } captures[] = {
     {"mixed rows", make_mixed},      {"no-ops", make_noops}, {"vertex elements", make_elements}, {"vertex buffers", make_buffers},
-    {"register pairs", make_registers}, {"small", make_small},  {"loop", make_loop},
+    {"register pairs", make_registers}, {"topologies", make_topologies}, {"small", make_small},  {"loop", make_loop},
 };
 
 /* ---- Calls ---- */

@@ -34,13 +34,18 @@ fn between(low: u32, high: u32, n: u32) -> bool
     low <= n && n <= high
 }
 
+// Whether a word with a bit for each code, the lowest code in bit 0, has that of the code; it has none for a code of 64 or more.
+fn bit_of(word: u64, code: u32) -> bool
+    ensures { λ r. ⌜ r ≡ (ltb code 64 && bit word code) ⌝ }
+{
+    code < 64 && (word >> code) & 1 == 1
+}
+
+// "one 64-bit word with a bit for each known code": 01h..14h, 16h, 20h..3Fh.
 pub fn known_topology(code: u32) -> bool
     ensures { λ r. ⌜ r ≡ knownTopology code ⌝ }
 {
-    if between(0x01, 0x14, code) {
-        return true;
-    }
-    code == 0x16 || between(0x20, 0x3F, code)
+    bit_of(0xFFFF_FFFF_005F_FFFE, code)
 }
 
 pub fn known_register(register: u32) -> bool
@@ -52,13 +57,6 @@ pub fn known_register(register: u32) -> bool
         }
         _ => register % 4 == 0 && between(0x2600, 0x267C, register),
     }
-}
-
-// Whether a word with a bit for each code, the lowest code in bit 0, has that of the code; it has none for a code of 64 or more.
-fn bit_of(word: u64, code: u32) -> bool
-    ensures { λ r. ⌜ r ≡ (ltb code 64 && bit word code) ⌝ }
-{
-    code < 64 && (word >> code) & 1 == 1
 }
 
 // Whether document 000 names the blend factor. As a word the test is short enough to be asked of eight entries in a row.

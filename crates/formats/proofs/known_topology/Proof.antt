@@ -1,31 +1,24 @@
--- `formats::known_topology` meets its contract: the definition's three tests, in its order.
+-- `formats::known_topology` meets its contract: the word has a bit for each known code, computed over all 64.
 -- Assumes nothing.
-use mathlib.Core.Path.{sym, _∙_}
+use Prim.Native.Nat.{ℕ, _≤_}
+use native.Mathlib.Omega.{arith}
+use mathlib.Core.Path.{_≡_, refl, _∙_}
+use mathlib.Core.Bool.{false, and-false}
 use borrow.Author.Needs.{needs}
-use borrow.Author.Tests.{eq-eqb, ne-eqb}
+use borrow.Author.Tests.{lt-leb, ne-eqb}
 use Rattle.rules.specs.Formats.{knownTopology}
+use Rattle.rules.proofs.Tables.{each, same, in-word}
 use Rattle.formats.proofs.known_topology.Statement.{statement}
 use Rattle.formats.proofs.known_topology.Tie as tie
 
-between-requires : tie.Need-between-requires
-between-requires c κs = search needs
+-- no code of 64 or more is known
+past : (code : ℕ) → 64 ≤ code → knownTopology code ≡ false
+unfolding knownTopology
+past code h = simp (lt-leb code 0x14 (omega arith), ne-eqb code 0x16 (λ e. omega arith), lt-leb code 0x3F (omega arith), and-false)
 
 returns : tie.Need-returns
-unfolding knownTopology
-returns c = simp (sym (c .before .between .ensures) ∙ c .if1 .taken)
-
-between-requires-2 : tie.Need-between-requires-2
-between-requires-2 c κs = search needs
-
-returns-2 : tie.Need-returns-2
-unfolding knownTopology
-returns-2 c = simp (sym (c .before .before .between .ensures) ∙ c .before .if1 .left, eq-eqb _ _ (c .if2 .taken))
-
-returns-3 : tie.Need-returns-3
-unfolding knownTopology
-returns-3 c =
-    simp (sym (c .before .before .before .between .ensures) ∙ c .before .before .if1 .left, ne-eqb _ _ (c .before .if2 .left))
-    (c .between2 .ensures)
+unfolding each same knownTopology
+returns c = c .bit-of .ensures ∙ in-word 0xFFFFFFFF005FFFFE knownTopology refl past (c .before .args .code)
 
 pub known-topology-spec : {M : Type 1} → statement M
-known-topology-spec = tie.close (tie.spec between-requires returns between-requires-2 returns-2 returns-3)
+known-topology-spec = tie.close (tie.spec (λ c κs. search needs) returns)
