@@ -1,11 +1,13 @@
-// The value rules (12): whether a dword, the dword j of its group, breaks the rule of its row.
+// The value rules (12): which dwords of a row have one, and whether a dword, the dword j of its group, breaks the rule of its row.
 ghost use mathlib.Core.Path.{_≡_};
 ghost use mathlib.Core.List.{[], _∷_};
 ghost use Prim.Native.Nat.{_<_};
 ghost use lib.ListN.{length, getD};
 ghost use Rattle.rules.specs.Formats.{surfaceFormats};
+ghost use Rattle.rules.specs.Commands.{rowCount};
 ghost use Rattle.rules.specs.Values.{startRule, registerRule, storeRule, pipeRule, vertexBufferRule, indexBufferRule, topologyRule, primitiveRule};
 ghost use Rattle.rules.specs.Values.{afterZero, componentsWrong, vertexElementRule, ruleOf};
+ghost use Rattle.commands.specs.Ruled.{ruled, ruledBits};
 use rules::names::BASE_ROW;
 use rules::names::BLEND_ROW;
 use rules::names::COLOUR_ROW;
@@ -25,6 +27,41 @@ use rules::names::VERTEX_BUFFERS_ROW;
 use rules::names::VERTEX_ELEMENTS_ROW;
 use rules::names::VIEWPORT_ROW;
 use words::dwords::dword;
+
+// The dwords of a row's group that have a value rule, a bit each; bit 0 is the header.
+fn ruled_bits(row: usize) -> u32
+    ensures { λ r. ⌜ r ≡ ruledBits row ⌝ }
+{
+    match row {
+        NOOP_ROW => 0,
+        END_ROW => 0,
+        START_ROW => 0b1,
+        SET_REGISTERS_ROW => 0b10,
+        STORE_ROW => 0b10,
+        STORE_REGISTER_ROW => 0b10,
+        LOAD_REGISTER_ROW => 0b10,
+        PIPE_ROW => 0b11_1100,
+        SELECT_ROW => 0,
+        BASE_ROW => 0,
+        VERTEX_BUFFERS_ROW => 0b10,
+        VERTEX_ELEMENTS_ROW => 0b110,
+        INDEX_BUFFER_ROW => 0b10,
+        TOPOLOGY_ROW => 0b10,
+        VIEWPORT_ROW => 0,
+        COLOUR_ROW => 0,
+        PRIMITIVE_ROW => 0b110_1010,
+        BLEND_ROW => 0,
+        _ => 0,
+    }
+}
+
+// Whether the dword j of a group has a value rule in its row.
+pub fn has_rule(row: usize, j: usize) -> bool
+    requires { ⌜ (row < rowCount) × (j < 16) ⌝ }
+    ensures { λ r. ⌜ r ≡ ruled row j ⌝ }
+{
+    (ruled_bits(row) >> j) & 1 == 1
+}
 
 fn start_wrong(j: usize, word: u32) -> bool
     ensures { λ r. ⌜ r ≡ startRule [] 0 j word ⌝ }

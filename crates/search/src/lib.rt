@@ -10,6 +10,7 @@ ghost use Rattle.rules.specs.Masks.{allowedOf};
 ghost use Rattle.rows.specs.Masks.{maskTable};
 ghost use Rattle.search.specs.Search.{wrongAt, wrong};
 use commands::addresses::access_of;
+use commands::values::has_rule;
 use commands::values::value_wrong;
 use rows::group_size;
 use rules::Found;
@@ -36,7 +37,8 @@ fn allowed_of(row: usize, command: &[u32], k: usize, j: usize, masks: &[u32; 16]
     masks[j]
 }
 
-// Whether the dword k, the dword j of its group, is what is looked for. The row's masks and the formats are lent.
+// Whether the dword k, the dword j of its group, is what is looked for. A value rule is asked only of a dword that has one. The row's masks and the
+// formats are lent.
 fn wrong_at(
     what: Sought,
     w: Windows,
@@ -47,12 +49,12 @@ fn wrong_at(
     masks: &[u32; 16],
     formats: &[u16; 512],
 ) -> bool
-    requires { ⌜ (k < length (now command)) × (j < 16) × (row < rowCount) × (now masks ≡ getD maskTable row []) × (now formats ≡ surfaceFormats) ⌝ }
+    requires { ⌜ (k < length (now command)) × (j ≤ groupSize row) × (row < rowCount) × (now masks ≡ getD maskTable row []) × (now formats ≡ surfaceFormats) ⌝ }
     ensures { λ r. ⌜ r ≡ wrongAt what w row (now (command .entry)) k j ⌝ }
 {
     match what {
         Sought::Bits => !words::allowed(command[k], allowed_of(row, command, k, j, masks)),
-        Sought::Values => value_wrong(row, command, k, j, formats),
+        Sought::Values => has_rule(row, j) && value_wrong(row, command, k, j, formats),
         Sought::Ranges => {
             let access = access_of(row, command, k, j);
             access_wrong(w, address_at(command, k), access)

@@ -8,12 +8,11 @@ use mathlib.Core.Path.{_≡_, sym, ap, _∙_}
 use mathlib.Core.Bool.{Bool}
 use mathlib.Core.List.{List, []}
 use lib.ListN.{length, getD}
-use lib.Dec.{lit<}
 use borrow.Author.Needs.{needs}
 use Rattle.rows.specs.Masks.{maskTable}
 use Rattle.search.specs.Search.{wrong}
 use Rattle.search.proofs.SearchLaws.{Left, left-at, left-all, left-more, left-found, left-none}
-use Rattle.search.proofs.SearchLaws.{in-group, next-group, header-spot, size-small, some-size, wrong-at-spot}
+use Rattle.search.proofs.SearchLaws.{in-group, next-group, header-spot, some-size, wrong-at-spot}
 use Rattle.search.proofs.first_wrong.Statement.{statement}
 use Rattle.search.proofs.first_wrong.Tie as tie
 
@@ -74,7 +73,7 @@ positive c =
 header-requires : tie.Need-wrong-at-requires Inv-loop μ-loop Inv-groups μ-groups
 header-requires c κs =
     let s = c .before .before .before in
-    (search needs, lit< tt, s .pre .0, own-masks s, s .pre .3)
+    (search needs, search needs, s .pre .0, own-masks s, s .pre .3)
 
 groups-holds : tie.Need-groups-holds Inv-loop μ-loop Inv-groups μ-groups
 groups-holds c =
@@ -84,7 +83,6 @@ dword-requires : tie.Need-wrong-at-requires-2 Inv-loop μ-loop Inv-groups μ-gro
 dword-requires c κs =
     let g = group (c .before .before) in
     let s = start g in
-    let small = size-small _ (s .pre .0) in
     (search needs, omega (arith, sized g .group-size .ensures), s .pre .0, own-masks s, s .pre .3)
 
 loop-again : tie.Need-loop-again Inv-loop μ-loop Inv-groups μ-groups
