@@ -13,39 +13,39 @@ abbrev pub noByte : ℕ
 noByte = 256
 
 -- a row for characters of one, two, three and four bytes: how many of them stand, then the lowest and the highest that each byte may be
-abbrev one : ℕ → ℕ → ℕ → List ℕ
-one n low high = n ∷ low ∷ high ∷ 0 ∷ noByte ∷ 0 ∷ noByte ∷ 0 ∷ noByte ∷ []
+abbrev oneByteRow : ℕ → ℕ → ℕ → List ℕ
+oneByteRow n low high = n ∷ low ∷ high ∷ 0 ∷ noByte ∷ 0 ∷ noByte ∷ 0 ∷ noByte ∷ []
 
-abbrev two : ℕ → ℕ → ℕ → ℕ → ℕ → List ℕ
-two n low high low′ high′ = n ∷ low ∷ high ∷ low′ ∷ high′ ∷ 0 ∷ noByte ∷ 0 ∷ noByte ∷ []
+abbrev twoByteRow : ℕ → ℕ → ℕ → ℕ → ℕ → List ℕ
+twoByteRow n low high low′ high′ = n ∷ low ∷ high ∷ low′ ∷ high′ ∷ 0 ∷ noByte ∷ 0 ∷ noByte ∷ []
 
-abbrev three : ℕ → ℕ → ℕ → ℕ → ℕ → ℕ → ℕ → List ℕ
-three n low high low′ high′ low″ high″ = n ∷ low ∷ high ∷ low′ ∷ high′ ∷ low″ ∷ high″ ∷ 0 ∷ noByte ∷ []
+abbrev threeByteRow : ℕ → ℕ → ℕ → ℕ → ℕ → ℕ → ℕ → List ℕ
+threeByteRow n low high low′ high′ low″ high″ = n ∷ low ∷ high ∷ low′ ∷ high′ ∷ low″ ∷ high″ ∷ 0 ∷ noByte ∷ []
 
-abbrev four : ℕ → ℕ → ℕ → ℕ → ℕ → List ℕ
-four n low high low′ high′ = n ∷ low ∷ high ∷ low′ ∷ high′ ∷ 0x80 ∷ 0xBF ∷ 0x80 ∷ 0xBF ∷ []
+abbrev fourByteRow : ℕ → ℕ → ℕ → ℕ → ℕ → List ℕ
+fourByteRow n low high low′ high′ = n ∷ low ∷ high ∷ low′ ∷ high′ ∷ 0x80 ∷ 0xBF ∷ 0x80 ∷ 0xBF ∷ []
 
 -- the first row that a character fits says how many bytes of it stand; of one that fits none, none do
 unfoldable pub characters : List (List ℕ)
 characters =
     -- 20h to 7Eh, but for the backslash
-    one 1 0x20 0x5B
-    ∷ one 1 0x5D 0x7E
+    oneByteRow 1 0x20 0x5B
+    ∷ oneByteRow 1 0x5D 0x7E
     -- invisible, or turns a line's direction: U+200B to U+200F, U+2028 to U+202E, U+2060 to U+206F, U+FEFF
-    ∷ three 0 0xE2 0xE2 0x80 0x80 0x8B 0x8F
-    ∷ three 0 0xE2 0xE2 0x80 0x80 0xA8 0xAE
-    ∷ three 0 0xE2 0xE2 0x81 0x81 0xA0 0xAF
-    ∷ three 0 0xEF 0xEF 0xBB 0xBB 0xBF 0xBF
+    ∷ threeByteRow 0 0xE2 0xE2 0x80 0x80 0x8B 0x8F
+    ∷ threeByteRow 0 0xE2 0xE2 0x80 0x80 0xA8 0xAE
+    ∷ threeByteRow 0 0xE2 0xE2 0x81 0x81 0xA0 0xAF
+    ∷ threeByteRow 0 0xEF 0xEF 0xBB 0xBB 0xBF 0xBF
     -- Unicode's table 3-7, "Well-Formed UTF-8 Byte Sequences", from U+00A0 on
-    ∷ two 2 0xC2 0xC2 0xA0 0xBF
-    ∷ two 2 0xC3 0xDF 0x80 0xBF
-    ∷ three 3 0xE0 0xE0 0xA0 0xBF 0x80 0xBF
-    ∷ three 3 0xE1 0xEC 0x80 0xBF 0x80 0xBF
-    ∷ three 3 0xED 0xED 0x80 0x9F 0x80 0xBF
-    ∷ three 3 0xEE 0xEF 0x80 0xBF 0x80 0xBF
-    ∷ four 4 0xF0 0xF0 0x90 0xBF
-    ∷ four 4 0xF1 0xF3 0x80 0xBF
-    ∷ four 4 0xF4 0xF4 0x80 0x8F
+    ∷ twoByteRow 2 0xC2 0xC2 0xA0 0xBF
+    ∷ twoByteRow 2 0xC3 0xDF 0x80 0xBF
+    ∷ threeByteRow 3 0xE0 0xE0 0xA0 0xBF 0x80 0xBF
+    ∷ threeByteRow 3 0xE1 0xEC 0x80 0xBF 0x80 0xBF
+    ∷ threeByteRow 3 0xED 0xED 0x80 0x9F 0x80 0xBF
+    ∷ threeByteRow 3 0xEE 0xEF 0x80 0xBF 0x80 0xBF
+    ∷ fourByteRow 4 0xF0 0xF0 0x90 0xBF
+    ∷ fourByteRow 4 0xF1 0xF3 0x80 0xBF
+    ∷ fourByteRow 4 0xF4 0xF4 0x80 0x8F
     ∷ []
 
 -- whether the bytes at the front of a name lie in the ranges of a row
