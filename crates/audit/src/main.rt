@@ -717,6 +717,14 @@ fn audit_stream(
     run
 }
 
+// The end of a run: the totals are written, if every line before was, and the status is told.
+fn conclude(wish: Wish, run: Run, line: &mut [u8; LINE_BYTES], reasons: &[u64; REASONS]) {
+    let totals = run.totals;
+    let whole = run.whole && write_totals(wish, totals, line, reasons);
+    let status = status_of(Run { totals, whole });
+    io::write_all(REPORT, &reports::status_line(status));
+}
+
 // Every buffer is made once and lent for each name: to make them anew would cost more than the check.
 fn main() {
     let wish = asked();
@@ -755,8 +763,5 @@ fn main() {
             &mut reasons,
         )
     };
-    let totals = run.totals;
-    let whole = run.whole && write_totals(wish, totals, &mut line, &reasons);
-    let status = status_of(Run { totals, whole });
-    io::write_all(REPORT, &reports::status_line(status));
+    conclude(wish, run, &mut line, &reasons);
 }
