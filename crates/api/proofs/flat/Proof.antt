@@ -18,7 +18,7 @@ returns c = rw (c .before .before .opened .given .1, c .number .ensures)
 
 returns-2 : tie.Need-returns-2
 unfolding flatOf openedVerdict numbersOf told answerWith
-returns-2 c = rw (c .before .before .before .before .opened2 .given .1)
+returns-2 c = let told = c .before .before .before .before in rw (told .opened2 .given .1)
 
 pub flat-spec : {M : Type 1} → statement M
 flat-spec =
@@ -26,5 +26,5 @@ flat-spec =
     (tie.spec (λ c. search needs) (λ c κs. search needs) (λ c. search needs)
     (λ c. record { fits = small (c .before .before) .batch })
     (λ c. record { fits = small (c .before .before .before) .state })
-    (λ c. record { fits = small (c .before .before .before .before) .scratch })
+    (λ c. let told = c .before .before .before .before in record { fits = small told .scratch })
     returns returns-2)

@@ -51,6 +51,6 @@ judge-spec =
     (λ c. let h = shown (c .before .before) in omega arith)
     (λ c. let h = shown (c .before .before .before) in sym (length-take-le _ _ (omega arith)))
     (λ c. let h = shown (c .before .before .before) in omega arith)
-    (λ c. let h = shown (c .before .before .before .before) in sym (length-take-le _ _ (omega arith)))
+    (λ c. let trailer = c .before .before in let h = shown (trailer .before .before) in sym (length-take-le _ _ (omega arith)))
     (λ c κs. search needs) (λ c. search needs) (λ c. search needs) returns (λ c. search needs) (λ c. search needs)
     (λ c. search needs) returns-2)

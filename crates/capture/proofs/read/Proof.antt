@@ -38,6 +38,6 @@ read-spec =
     tie.close
     (tie.spec (λ c κs. search needs) (λ c. search needs) (λ c. search needs)
     (λ c κs. let h = shown (c .before .before) in omega arith)
-    (λ c. let h = shown (c .before .before .before .before .before) in omega arith)
-    (λ c κs. let h = shown (c .before .before .before .before .before .before) in omega arith)
+    (λ c. let first = c .before .before in let h = shown (first .before .before .before) in omega arith)
+    (λ c κs. let first = c .before .before .before in let h = shown (first .before .before .before) in omega arith)
     returns (λ c. search needs) (λ c. search needs) returns-2)

@@ -8,11 +8,13 @@ use Rattle.capture.proofs.trailer.Tie as tie
 returns : tie.Need-returns
 unfolding trailerOf
 returns c =
+    let batch = c .before .before .before .before in
+    let state = c .before .before in
     rw (
-      c .before .before .before .before .before .long-word-at .ensures,
-      c .before .before .before .before .trailer-word .ensures,
-      c .before .before .before .long-word-at2 .ensures,
-      c .before .before .trailer-word2 .ensures,
+      batch .before .long-word-at .ensures,
+      batch .trailer-word .ensures,
+      state .before .long-word-at2 .ensures,
+      state .trailer-word2 .ensures,
       c .before .long-word-at3 .ensures,
       c .trailer-word3 .ensures,
     )

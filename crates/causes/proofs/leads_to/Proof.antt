@@ -17,8 +17,9 @@ returns-2 : tie.Need-returns-2
 unfolding leadsTo
 returns-2 c =
     let test = c .before in
-    let said = test .before .before .before .before .command .ensures in
-    simp (ne-eqb _ _ (rw said at (test .before .before .if1 .left)), ne-eqb _ _ (rw said at (test .if2 .taken))) (c .behind .ensures)
+    let first = test .before .before in
+    let said = first .before .before .command .ensures in
+    simp (ne-eqb _ _ (rw said at (first .if1 .left)), ne-eqb _ _ (rw said at (test .if2 .taken))) (c .behind .ensures)
 
 add-dword : tie.Need-add-dword
 add-dword c =
@@ -36,9 +37,10 @@ returns-3 c =
     let high = c .before .before in
     let low = high .before .before in
     let test = low .before .before in
-    let said = test .before .before .before .before .command .ensures in
-    let s = test .before .before .before .before .before .before in
-    simp (ne-eqb _ _ (rw said at (test .before .before .if1 .left)), eq-eqb _ _ (rw said at (test .if2 .left)))
+    let first = test .before .before in
+    let said = first .before .before .command .ensures in
+    let s = first .before .before .before .before in
+    simp (ne-eqb _ _ (rw said at (first .if1 .left)), eq-eqb _ _ (rw said at (test .if2 .left)))
     (rw (
       c .dword-of .ensures,
       c .before .address-of .ensures,

@@ -10,8 +10,7 @@ use Rattle.causes.proofs.reach_at.Statement.{statement}
 use Rattle.causes.proofs.reach_at.Tie as tie
 
 -- the length is that of the command at the position
-long : (c : tie.After-length-of)
-    → c .length-of .result ≡ lengthAt (c .before .before .before .before .args .batch .now) (c .before .before .before .before .args .at)
+long : (c : tie.After-length-of) → let s = c .before .before .before .before in c .length-of .result ≡ lengthAt (s .args .batch .now) (s .args .at)
 long c = c .length-of .ensures ∙ rw (c .before .row-of .ensures, c .before .before .dword .ensures)
 
 returns : tie.Need-returns

@@ -11,26 +11,29 @@ use Rattle.json.proofs.Bounds.{text-quoted}
 use Rattle.json.proofs.file_line.Statement.{statement}
 use Rattle.json.proofs.file_line.Tie as tie
 
+abbrev start : tie.After-put-member → tie.Start
+start c = c .before .before .before .before .before .before .before
+
 -- the words take six bytes for each at most
-said : (start : tie.Start) → length (quoted (start .args .words .now)) ≤ 3072
-said start = omega (arith, text-quoted (start .args .words .now), start .pre .1)
+said : (s : tie.Start) → length (quoted (s .args .words .now)) ≤ 3072
+said s = omega (arith, text-quoted (s .args .words .now), s .pre .1)
 
 put-string-requires : tie.Need-put-string-requires
 put-string-requires c κs =
     let member = c .before .before in
-    let words = said (member .before .before .before .before .before .before .before) in
+    let words = said (start member) in
     search needs
 
 put-place-requires : tie.Need-put-place-requires
 put-place-requires c κs =
     let member = c .before .before .before .before in
-    let words = said (member .before .before .before .before .before .before .before) in
+    let words = said (start member) in
     search needs
 
 put-text-requires : tie.Need-put-text-requires
 put-text-requires c κs =
     let member = c .before .before .before .before .before .before .before in
-    let words = said (member .before .before .before .before .before .before .before) in
+    let words = said (start member) in
     search needs
 
 returns : tie.Need-returns
@@ -40,9 +43,9 @@ returns c =
     let words = place .before .before in
     let reason = words .before .before .before in
     let head = reason .before .before .before in
-    let start = head .before .before .before .before in
-    let named : length (quoted (start .args .name .now)) ≤ 20480 = start .pre .0 in
-    let spoken = said start in
+    let s = start reason in
+    let named : length (quoted (s .args .name .now)) ≤ 20480 = s .pre .0 in
+    let spoken = said s in
     let text = then (then (head .put-head .ensures) (reason .put-member .ensures)) (words .put-string .ensures) in
     whole (search needs) (then (then text (place .put-place .ensures)) (c .put-text .ensures))
 

@@ -14,15 +14,22 @@ abbrev μ-loop : tie.MeasureT-loop
 μ-loop page₀ records i₀ page i = length records - i
 
 add-i : tie.Need-add-i Inv-loop μ-loop
-add-i c = let few = few-told (c .before .before .before .before .before .record-lines .ensures) in search needs
+add-i c =
+    let gathered = c .before .before .before .before .before in
+    let few = few-told (gathered .record-lines .ensures) in
+    search needs
 
 loop-less : tie.Need-loop-less Inv-loop μ-loop
 loop-less c =
-    let some = some-told (c .before .before .before .before .before .record-lines .ensures) (search needs) (search needs) in
+    let gathered = c .before .before .before .before .before in
+    let some = some-told (gathered .record-lines .ensures) (search needs) (search needs) in
     search needs
 
 loop-again : tie.Need-loop-again Inv-loop μ-loop
-loop-again c = let few = few-told (c .before .before .before .before .before .record-lines .ensures) in search needs
+loop-again c =
+    let gathered = c .before .before .before .before .before in
+    let few = few-told (gathered .record-lines .ensures) in
+    search needs
 
 pub print-records-spec : {M : Type 1} → statement M
 print-records-spec =

@@ -33,23 +33,23 @@ end-requires c κs = row-is (c .before .before .before) (c .match .keys2) (lit< 
 
 start-requires : tie.Need-start-requires
 unfolding rows rowFrom
-start-requires c κs = lent-to (c .before .before .before .before) (c .before .match .keys3) (lit< tt) refl (c .from .ensures) .0
+start-requires c κs = let k = c .before in lent-to (k .before .before .before) (k .match .keys3) (lit< tt) refl (c .from .ensures) .0
 
 set-registers-requires : tie.Need-set-registers-requires
 unfolding rows rowFrom
-set-registers-requires c κs = lent-to (c .before .before .before .before .before) (c .before .before .match .keys4) (lit< tt) refl (c .from2 .ensures)
+set-registers-requires c κs = let k = c .before .before in lent-to (k .before .before .before) (k .match .keys4) (lit< tt) refl (c .from2 .ensures)
 
 store-requires : tie.Need-store-requires
 unfolding rows rowFrom
-store-requires c κs = lent-to (c .before .before .before .before .before) (c .before .before .match .keys5) (lit< tt) refl (c .from3 .ensures)
+store-requires c κs = let k = c .before .before in lent-to (k .before .before .before) (k .match .keys5) (lit< tt) refl (c .from3 .ensures)
 
 store-register-requires : tie.Need-store-register-requires
 unfolding rows rowFrom
-store-register-requires c κs = lent-to (c .before .before .before .before) (c .before .match .keys6) (lit< tt) refl (c .from4 .ensures)
+store-register-requires c κs = let k = c .before in lent-to (k .before .before .before) (k .match .keys6) (lit< tt) refl (c .from4 .ensures)
 
 load-register-requires : tie.Need-load-register-requires
 unfolding rows rowFrom
-load-register-requires c κs = lent-to (c .before .before .before .before) (c .before .match .keys7) (lit< tt) refl (c .from5 .ensures)
+load-register-requires c κs = let k = c .before in lent-to (k .before .before .before) (k .match .keys7) (lit< tt) refl (c .from5 .ensures)
 
 sees-noop : tie.Need-returns
 unfolding rows theRow rowFrom lengthOf usesByRow accessOf valueRules ruleOf

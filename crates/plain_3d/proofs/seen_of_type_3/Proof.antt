@@ -46,53 +46,63 @@ unfolding rows theRow rowFrom lengthOf usesByRow accessOf valueRules ruleOf
 seen-of-type-3-spec =
     tie.close
     (tie.spec (λ c. search needs) (λ c. search needs)
-    (λ c κs. search needs) (λ c κs. lent-to (c .before .before .before .before) (c .before .match .keys1) refl (c .from .ensures)) (λ c κs. search needs)
+    (λ c κs. search needs) (λ c κs. let k = c .before in lent-to (k .before .before .before) (k .match .keys1) refl (c .from .ensures)) (λ c κs. search needs)
     (λ c κs. row-is (c .before .before .before) (c .match .keys2) refl) (λ c κs. search needs)
-    (λ c κs. search needs) (λ c κs. lent-to (c .before .before .before .before) (c .before .match .keys3) refl (c .from2 .ensures)) (λ c κs. search needs)
+    (λ c κs. search needs) (λ c κs. let k = c .before in lent-to (k .before .before .before) (k .match .keys3) refl (c .from2 .ensures)) (λ c κs. search needs)
     (λ c κs. search needs) (λ c κs. search needs)
-    (λ c κs. lent-to (c .before .before .before .before .before) (c .before .before .match .keys4) refl (c .from3 .ensures)) (λ c κs. search needs)
+    (λ c κs. let k = c .before .before in lent-to (k .before .before .before) (k .match .keys4) refl (c .from3 .ensures)) (λ c κs. search needs)
     (λ c κs. search needs) (λ c κs. search needs)
-    (λ c κs. lent-to (c .before .before .before .before .before) (c .before .before .match .keys5) refl (c .from4 .ensures)) (λ c κs. search needs)
-    (λ c κs. search needs) (λ c κs. lent-to (c .before .before .before .before) (c .before .match .keys6) refl (c .from5 .ensures)) (λ c κs. search needs)
-    (λ c κs. search needs) (λ c κs. lent-to (c .before .before .before .before) (c .before .match .keys7) refl (c .from6 .ensures)) (λ c κs. search needs)
-    (λ c κs. search needs) (λ c κs. lent-to (c .before .before .before .before) (c .before .match .keys8) refl (c .from7 .ensures)) (λ c κs. search needs)
-    (λ c κs. search needs) (λ c κs. lent-to (c .before .before .before .before) (c .before .match .keys9) refl (c .from8 .ensures)) (λ c κs. search needs)
-    (λ c κs. search needs) (λ c κs. lent-to (c .before .before .before .before) (c .before .match .keys10) refl (c .from9 .ensures)) (λ c κs. search needs)
-    (λ c κs. search needs) (λ c κs. lent-to (c .before .before .before .before) (c .before .match .keys11) refl (c .from10 .ensures)) (λ c κs. search needs)
+    (λ c κs. let k = c .before .before in lent-to (k .before .before .before) (k .match .keys5) refl (c .from4 .ensures)) (λ c κs. search needs)
+    (λ c κs. search needs) (λ c κs. let k = c .before in lent-to (k .before .before .before) (k .match .keys6) refl (c .from5 .ensures)) (λ c κs. search needs)
+    (λ c κs. search needs) (λ c κs. let k = c .before in lent-to (k .before .before .before) (k .match .keys7) refl (c .from6 .ensures)) (λ c κs. search needs)
+    (λ c κs. search needs) (λ c κs. let k = c .before in lent-to (k .before .before .before) (k .match .keys8) refl (c .from7 .ensures)) (λ c κs. search needs)
+    (λ c κs. search needs) (λ c κs. let k = c .before in lent-to (k .before .before .before) (k .match .keys9) refl (c .from8 .ensures)) (λ c κs. search needs)
+    (λ c κs. search needs) (λ c κs. let k = c .before in lent-to (k .before .before .before) (k .match .keys10) refl (c .from9 .ensures)) (λ c κs. search needs)
+    (λ c κs. search needs) (λ c κs. let k = c .before in lent-to (k .before .before .before) (k .match .keys11) refl (c .from10 .ensures)) (λ c κs. search needs)
     (λ c κs. search needs) (λ c κs. search needs)
     (λ c.
-    within (c .before .before .before .before .before .before) (c .before .before .before .match .keys1) refl (lit< tt) _ (c .found .ensures) (c .before .before .from .ensures)
+    let k = c .before .before .before in
+    within (k .before .before .before) (k .match .keys1) refl (lit< tt) _ (c .found .ensures) (c .before .before .from .ensures)
     (exactly-long 7 _ 4 refl) (c .before .pipe .ensures))
     (λ c.
     let s = c .before .before .before .before .before in
     sees-alone _ (now (s .args .batch)) (s .args .at) First 8 (lit< tt) (row-is s (c .before .before .match .keys2) refl) _ (c .found2 .ensures)
     (c .before .select .ensures) refl (s .pre .0) refl refl refl refl)
     (λ c.
-    alone (c .before .before .before .before .before .before) (c .before .before .before .match .keys3) refl (lit< tt) _ (c .found3 .ensures) (c .before .before .from2 .ensures)
+    let k = c .before .before .before in
+    alone (k .before .before .before) (k .match .keys3) refl (lit< tt) _ (c .found3 .ensures) (c .before .before .from2 .ensures)
     (exactly-long 9 _ 14 refl) (c .before .base .ensures) refl)
     (λ c.
-    within (c .before .before .before .before .before .before .before) (c .before .before .before .before .match .keys4) refl (lit< tt) _ (c .found4 .ensures) (c .before .before .from3 .ensures)
+    let k = c .before .before .before .before in
+    within (k .before .before .before) (k .match .keys4) refl (lit< tt) _ (c .found4 .ensures) (c .before .before .from3 .ensures)
     (λ q. c .before .before .before .length-by-field .ensures) (c .before .vertex-buffers .ensures))
     (λ c.
-    alone (c .before .before .before .before .before .before .before) (c .before .before .before .before .match .keys5) refl (lit< tt) _ (c .found5 .ensures) (c .before .before .from4 .ensures)
+    let k = c .before .before .before .before in
+    alone (k .before .before .before) (k .match .keys5) refl (lit< tt) _ (c .found5 .ensures) (c .before .before .from4 .ensures)
     (λ q. c .before .before .before .length-by-field2 .ensures) (c .before .vertex-elements .ensures) refl)
     (λ c.
-    within (c .before .before .before .before .before .before) (c .before .before .before .match .keys6) refl (lit< tt) _ (c .found6 .ensures) (c .before .before .from5 .ensures)
+    let k = c .before .before .before in
+    within (k .before .before .before) (k .match .keys6) refl (lit< tt) _ (c .found6 .ensures) (c .before .before .from5 .ensures)
     (exactly-long 12 _ 3 refl) (c .before .index-buffer .ensures))
     (λ c.
-    alone (c .before .before .before .before .before .before) (c .before .before .before .match .keys7) refl (lit< tt) _ (c .found7 .ensures) (c .before .before .from6 .ensures)
+    let k = c .before .before .before in
+    alone (k .before .before .before) (k .match .keys7) refl (lit< tt) _ (c .found7 .ensures) (c .before .before .from6 .ensures)
     (exactly-long 13 _ 0 refl) (c .before .topology .ensures) refl)
     (λ c.
-    alone (c .before .before .before .before .before .before) (c .before .before .before .match .keys8) refl (lit< tt) _ (c .found8 .ensures) (c .before .before .from7 .ensures)
+    let k = c .before .before .before in
+    alone (k .before .before .before) (k .match .keys8) refl (lit< tt) _ (c .found8 .ensures) (c .before .before .from7 .ensures)
     (exactly-long 14 _ 0 refl) (c .before .viewport .ensures) refl)
     (λ c.
-    alone (c .before .before .before .before .before .before) (c .before .before .before .match .keys9) refl (lit< tt) _ (c .found9 .ensures) (c .before .before .from8 .ensures)
+    let k = c .before .before .before in
+    alone (k .before .before .before) (k .match .keys9) refl (lit< tt) _ (c .found9 .ensures) (c .before .before .from8 .ensures)
     (exactly-long 15 _ 0 refl) (c .before .colour .ensures) refl)
     (λ c.
-    alone (c .before .before .before .before .before .before) (c .before .before .before .match .keys10) refl (lit< tt) _ (c .found10 .ensures) (c .before .before .from9 .ensures)
+    let k = c .before .before .before in
+    alone (k .before .before .before) (k .match .keys10) refl (lit< tt) _ (c .found10 .ensures) (c .before .before .from9 .ensures)
     (exactly-long 16 _ 5 refl) (c .before .primitive .ensures) refl)
     (λ c.
-    alone (c .before .before .before .before .before .before) (c .before .before .before .match .keys11) refl (lit< tt) _ (c .found11 .ensures) (c .before .before .from10 .ensures)
+    let k = c .before .before .before in
+    alone (k .before .before .before) (k .match .keys11) refl (lit< tt) _ (c .found11 .ensures) (c .before .before .from10 .ensures)
     (exactly-long 17 _ 0 refl) (c .before .blend .ensures) refl)
     (λ c.
     let k = c .before .before in

@@ -6,7 +6,10 @@ use Rattle.printout.proofs.put_labelled.Statement.{statement}
 use Rattle.printout.proofs.put_labelled.Tie as tie
 
 returns : tie.Need-returns
-returns c = then (c .before .before .before .before .before .before .put-text .ensures) (c .before .before .put-digits .ensures)
+returns c =
+    let digits = c .before .before in
+    let label = digits .before .before .before .before in
+    then (label .put-text .ensures) (digits .put-digits .ensures)
 
 pub put-labelled-spec : {M : Type 1} → statement M
 put-labelled-spec = tie.close (tie.spec (λ c κs. search needs) (λ c κs. search needs) (λ c. search needs) returns)

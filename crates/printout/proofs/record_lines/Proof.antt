@@ -25,9 +25,11 @@ add-if1 c = let g = c .before .loop .inv in search needs
 put-command-requires : tie.Need-put-command-requires Inv-loop μ-loop
 put-command-requires c κs = search needs
 
+abbrev turn : tie.After-put-command Inv-loop μ-loop → tie.At-loop Inv-loop μ-loop
+turn c = c .before .before .before .before .before .before
+
 -- there was room for a line
-room-there : (c : tie.After-put-command Inv-loop μ-loop)
-    → c .before .before .before .before .before .before .loop .bytes + 84 ≤ length (c .before .before .before .before .before .before .loop .out)
+room-there : (c : tie.After-put-command Inv-loop μ-loop) → turn c .loop .bytes + 84 ≤ length (turn c .loop .out)
 room-there c = search needs
 
 -- or none is left
@@ -37,7 +39,7 @@ no-room-there c = search needs
 loop-again : tie.Need-loop-again Inv-loop μ-loop
 loop-again c =
     let put = c .before .before in
-    let l = put .before .before .before .before .before .before in
+    let l = turn put in
     one-more _ _ (l .loop .inv) (search needs) (rw (l .loop .inv .same) at (room-there put)) (rw (put .before .command .ensures) at (put .put-command .ensures))
 
 returns : tie.Need-returns Inv-loop μ-loop

@@ -33,6 +33,9 @@ abbrev μ-groups : tie.MeasureT-groups
 abbrev start : tie.At-groups Inv-loop μ-loop Inv-groups μ-groups → tie.Start Inv-loop μ-loop Inv-groups μ-groups
 start c = c .before .before .before .before .before .before .before
 
+abbrev entry : tie.After-wrong-at Inv-loop μ-loop Inv-groups μ-groups → tie.Start Inv-loop μ-loop Inv-groups μ-groups
+entry c = c .before .before .before .before
+
 abbrev group : tie.At-loop Inv-loop μ-loop Inv-groups μ-groups → tie.At-groups Inv-loop μ-loop Inv-groups μ-groups
 group c = c .before .before
 
@@ -46,10 +49,8 @@ dword c = c .before .before .before
 abbrev test : tie.Start Inv-loop μ-loop Inv-groups μ-groups → ℕ → Bool
 test s = wrong (s .args .what) (s .args .w) (s .args .row) (s .args .command .now)
 
-header-seen : (c : tie.After-wrong-at Inv-loop μ-loop Inv-groups μ-groups)
-    → test (c .before .before .before .before) 0 ≡ c .wrong-at .result
-header-seen c =
-    wrong-at-spot _ _ _ (c .before .before .before .before .args .command .now) 0 0 (header-spot _) ∙ sym (c .wrong-at .ensures)
+header-seen : (c : tie.After-wrong-at Inv-loop μ-loop Inv-groups μ-groups) → test (entry c) 0 ≡ c .wrong-at .result
+header-seen c = wrong-at-spot _ _ _ (entry c .args .command .now) 0 0 (header-spot _) ∙ sym (c .wrong-at .ensures)
 
 seen : (c : tie.After-wrong-at2 Inv-loop μ-loop Inv-groups μ-groups)
     → test (start (group (dword c))) (group (dword c) .groups .first + dword c .loop .j) ≡ c .wrong-at2 .result

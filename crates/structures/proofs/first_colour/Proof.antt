@@ -20,18 +20,21 @@ abbrev μ-loop : tie.MeasureT-loop
 loop-holds : tie.Need-loop-holds Inv-loop μ-loop
 loop-holds c = (search needs, search needs, from-two _)
 
+abbrev turn : tie.After-is-nan Inv-loop μ-loop → tie.At-loop Inv-loop μ-loop
+turn c = c .before .before .before
+
 seen : (c : tie.After-is-nan Inv-loop μ-loop)
-    → let l = c .before .before .before in colourWrong (now (l .before .before .args .d)) (l .loop .k) ≡ c .is-nan .result
+    → let l = turn c in colourWrong (now (l .before .before .args .d)) (l .loop .k) ≡ c .is-nan .result
 seen c = colour-at _ _ (search needs) (c .before .dword .ensures) (c .is-nan .ensures)
 
 returns : tie.Need-returns Inv-loop μ-loop
 returns c =
-    let l = c .before .before .before .before in
+    let l = turn (c .before) in
     sym (l .loop .inv .2 ∙ stops-here _ 6 _ (search needs) (seen (c .before) ∙ c .if1 .taken))
 
 loop-again : tie.Need-loop-again Inv-loop μ-loop
 loop-again c =
-    let l = c .before .before .before .before in
+    let l = turn (c .before) in
     (search needs, search needs, l .loop .inv .2 ∙ goes-on _ 6 _ (search needs) (seen (c .before) ∙ c .if1 .left))
 
 returns-2 : tie.Need-returns-2 Inv-loop μ-loop

@@ -21,19 +21,22 @@ abbrev μ-loop : tie.MeasureT-loop
 loop-holds : tie.Need-loop-holds Inv-loop μ-loop
 loop-holds c = (search needs, from-the-start _ _)
 
+abbrev turn : tie.After-allowed Inv-loop μ-loop → tie.At-loop Inv-loop μ-loop
+turn c = c .before .before .before .before .before
+
 seen : (c : tie.After-allowed Inv-loop μ-loop)
-    → let l = c .before .before .before .before .before in
+    → let l = turn c in
     outside (now (l .before .before .args .masks)) (l .before .before .args .size) (now (l .before .before .args .d)) (l .loop .k) ≡ not (c .allowed .result)
 seen c = bit-at _ _ _ _ (c .before .before .before .dword .ensures) (c .before .before .in-group .ensures .0) (c .allowed .ensures)
 
 returns : tie.Need-returns Inv-loop μ-loop
 returns c =
-    let l = c .before .before .before .before .before .before in
+    let l = turn (c .before) in
     sym (l .loop .inv .1 ∙ stops-here _ _ _ (search needs) (seen (c .before) ∙ c .if1 .taken))
 
 loop-again : tie.Need-loop-again Inv-loop μ-loop
 loop-again c =
-    let l = c .before .before .before .before .before .before in
+    let l = turn (c .before) in
     (search needs, l .loop .inv .1 ∙ goes-on _ _ _ (search needs) (seen (c .before) ∙ c .if1 .left))
 
 returns-2 : tie.Need-returns-2 Inv-loop μ-loop

@@ -6,13 +6,16 @@ use Rattle.structures.proofs.Judging.{not-held, bit-wrong, value-wrong,
 use Rattle.structures.proofs.judged.Statement.{statement}
 use Rattle.structures.proofs.judged.Tie as tie
 
+abbrev start : tie.After-first-bit → tie.Start
+start b = b .before .before .before .before
+
 returns : tie.Need-returns
 returns c = rw (c .in-batch .ensures) (not-held _ (sym (c .before .before .is-nowhere .ensures) ∙ c .before .if1 .taken))
 
 fault-at-requires : tie.Need-fault-at-requires
 fault-at-requires c κs =
     let b = c .before .before .before in
-    found-below _ _ (sym (b .first-bit .ensures) ∙ c .before .k .given .1) _ _ (b .before .before .before .before .pre)
+    found-below _ _ (sym (b .first-bit .ensures) ∙ c .before .k .given .1) _ _ (start b .pre)
 
 returns-2 : tie.Need-returns-2
 returns-2 c =
@@ -24,8 +27,8 @@ returns-2 c =
 fault-at-requires-2 : tie.Need-fault-at-requires-2
 fault-at-requires-2 c κs =
     let v = c .before .before .before in
-    found-below _ _ (sym (v .first-value .ensures) ∙ c .before .k2 .given .1) _ _
-    (v .before .before .before .before .before .before .before .pre)
+    let b = v .before .before .before in
+    found-below _ _ (sym (v .first-value .ensures) ∙ c .before .k2 .given .1) _ _ (start b .pre)
 
 returns-3 : tie.Need-returns-3
 returns-3 c =

@@ -28,8 +28,9 @@ returns c = rw (c .before .before .enum-told .given .1, c .before .value .ensure
 
 returns-2 : tie.Need-returns-2
 returns-2 c =
+    let told = c .before .before .before .before in
     rw (
-      c .before .before .before .before .enum-told2 .given .1,
+      told .enum-told2 .given .1,
       c .before .before .before .value3 .ensures,
       c .before .before .value4 .ensures,
       c .before .value5 .ensures,

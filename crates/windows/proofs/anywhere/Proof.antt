@@ -19,10 +19,12 @@ in-batch c = simp (sym (c .before .holds2 .ensures) ∙ c .if2 .taken)
 in-state : tie.Need-returns-3
 unfolding some windowsWithin fits
 in-state c =
+    let batch = c .before .before in
+    let scratch = batch .before .before in
     simp (
       c .holds3 .ensures,
-      sym (c .before .before .holds2 .ensures) ∙ c .before .if2 .left,
-      sym (c .before .before .before .before .holds .ensures) ∙ c .before .before .before .if1 .left,
+      sym (batch .holds2 .ensures) ∙ c .before .if2 .left,
+      sym (scratch .holds .ensures) ∙ batch .before .if1 .left,
       or-false,
     )
 

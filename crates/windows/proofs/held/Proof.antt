@@ -20,9 +20,11 @@ sub-t10 c = starts-above _ _ _ (sym (c .before .before .holds-dwords2 .ensures) 
 returns-2 : tie.Need-returns-2
 unfolding heldAt
 returns-2 c =
+    let state = c .before .before in
+    let batch = state .before .before in
     simp (
-      sym (c .before .before .before .before .holds-dwords .ensures) ∙ c .before .before .before .if1 .left,
-      sym (c .before .before .holds-dwords2 .ensures) ∙ c .before .if2 .taken,
+      sym (batch .holds-dwords .ensures) ∙ state .before .if1 .left,
+      sym (state .holds-dwords2 .ensures) ∙ c .before .if2 .taken,
     )
 
 returns-3 : tie.Need-returns-3

@@ -6,10 +6,10 @@ use Rattle.windows.proofs.part_of.Statement.{statement}
 use Rattle.windows.proofs.part_of.Tie as tie
 
 part-requires : tie.Need-part-requires
-part-requires c κs = rw (c .before .held .given .1) at (c .before .before .before .before .before .pre)
+part-requires c κs = let start = c .before .before .before .before .before in rw (c .before .held .given .1) at (start .pre)
 
 part-requires-2 : tie.Need-part-requires-2
-part-requires-2 c κs = rw (c .before .held2 .given .1) at (c .before .before .before .before .before .pre)
+part-requires-2 c κs = let start = c .before .before .before .before .before in rw (c .before .held2 .given .1) at (start .pre)
 
 returns : tie.Need-returns
 unfolding partOf

@@ -20,7 +20,7 @@ counts-right c = sym (c .before .before .counts-wrong .ensures) ∙ c .before .i
 aligned : (c : tie.After-some-too-high) → some unaligned (listed (start (c .before .before) .args .w)) ≡ false
 aligned c = sym (c .before .before .some-unaligned .ensures) ∙ c .before .if2 .left
 
-low : (c : tie.After-some-share) → some endsTooHigh (listed (start (c .before .before .before .before) .args .w)) ≡ false
+low : (c : tie.After-some-share) → let second = c .before .before .before .before in some endsTooHigh (listed (start second .args .w)) ≡ false
 low c = sym (c .before .before .some-too-high .ensures) ∙ c .before .if3 .left
 
 wrong-counts : tie.Need-returns

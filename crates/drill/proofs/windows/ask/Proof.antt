@@ -38,7 +38,7 @@ array-borrow-prefix-twin c = within _ (c .before .before .before .at-most3 .ensu
 
 slice-aggregate-check-2 : tie.Need-slice-aggregate-check-2
 unfolding unwritten
-slice-aggregate-check-2 c = counted _ (c .before .before .before .before .at-most3 .ensures)
+slice-aggregate-check-2 c = let lent = c .before .before .before .before in counted _ (lent .at-most3 .ensures)
 
 pub ask-spec : {M : Type 1} → statement M
 ask-spec =

@@ -26,7 +26,8 @@ put-quoted-byte-requires c κs =
 loop-again : tie.Need-loop-again Inv-loop μ-loop
 loop-again c =
     let put = c .before .before in
-    quote-goes-on (put .before .before .before .before .loop .inv) (search needs) (put .put-quoted-byte .ensures)
+    let turn = put .before .before .before .before in
+    quote-goes-on (turn .loop .inv) (search needs) (put .put-quoted-byte .ensures)
 
 same-length : tie.Need-same-length Inv-loop μ-loop
 same-length c = as-long (c .before .loop .inv .pieces)

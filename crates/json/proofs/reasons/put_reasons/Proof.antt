@@ -26,7 +26,8 @@ put-reason-requires c κs =
 loop-again : tie.Need-loop-again Inv-loop μ-loop
 loop-again c =
     let put = c .before .before .before .before in
-    tell-goes-on (put .before .before .before .before .loop .inv) (search needs) (put .put-reason .ensures) (c .told-now .ensures)
+    let turn = put .before .before .before .before in
+    tell-goes-on (turn .loop .inv) (search needs) (put .put-reason .ensures) (c .told-now .ensures)
 
 same-length : tie.Need-same-length Inv-loop μ-loop
 same-length c = as-long (c .before .loop .inv .pieces)

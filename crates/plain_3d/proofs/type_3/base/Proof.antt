@@ -46,36 +46,42 @@ all-left c =
     bits-say baseRow 14 refl refl refl noWindows (rest c)
     (omega (arith, head-is _ _ (c .before .whole-header .ensures) (c .if1 .left))) (fits c) refl
 
+-- where what stands before was kept: the header, the first four dwords, and the first eight
+abbrev head : tie.Else2 → tie.Else1
+head c = c .before .before
+
+abbrev past-4 : tie.Else3 → tie.Else2
+past-4 c = c .before .before
+
+abbrev past-8 : tie.Else4 → tie.Else3
+past-8 c = c .before .before
+
 first-four : (c : tie.After-four-bits) → c .four-bits .result ≡ bits (c .before) 0 4
 unfolding strayFrom firstFrom bitWrong allowedAt allowedOf masksOf inGroup rows theRow groupSize allowed
 first-four c =
     let header = head-is _ _ (c .before .before .whole-header .ensures) (c .before .if1 .left) in
     rw header (rw header at (c .four-bits .ensures))
 
-second-four : (c : tie.After-four-bits2) → c .four-bits2 .result ≡ bits (c .before .before .before) 4 4
+second-four : (c : tie.After-four-bits2) → c .four-bits2 .result ≡ bits (head (c .before)) 4 4
 unfolding strayFrom firstFrom bitWrong allowedAt allowedOf masksOf inGroup rows theRow groupSize
 second-four c = c .four-bits2 .ensures
 
-third-four : (c : tie.After-four-bits3) → c .four-bits3 .result ≡ bits (c .before .before .before .before .before) 8 4
+third-four : (c : tie.After-four-bits3) → c .four-bits3 .result ≡ bits (head (past-4 (c .before))) 8 4
 unfolding strayFrom firstFrom bitWrong allowedAt allowedOf masksOf inGroup rows theRow groupSize
 third-four c = c .four-bits3 .ensures
 
-last-four : (c : tie.After-four-bits4) → c .four-bits4 .result ≡ bits (c .before .before .before .before .before .before .before) 12 4
+last-four : (c : tie.After-four-bits4) → c .four-bits4 .result ≡ bits (head (past-4 (past-8 (c .before)))) 12 4
 unfolding strayFrom firstFrom bitWrong allowedAt allowedOf masksOf inGroup rows theRow groupSize
 last-four c = c .four-bits4 .ensures
 
-behind-4 : (c : tie.Else2) → Left (c .before .before) 4
-behind-4 c = let head = c .before .before in latter-says (order head) 0 4 12 (first-four (c .before)) (c .if2 .left) refl ∙ all-left head
+behind-4 : (c : tie.Else2) → Left (head c) 4
+behind-4 c = latter-says (order (head c)) 0 4 12 (first-four (c .before)) (c .if2 .left) refl ∙ all-left (head c)
 
-behind-8 : (c : tie.Else3) → Left (c .before .before .before .before) 8
-behind-8 c =
-    let head = c .before .before .before .before in
-    latter-says (order head) 4 4 8 (second-four (c .before)) (c .if3 .left) refl ∙ behind-4 (c .before .before)
+behind-8 : (c : tie.Else3) → Left (head (past-4 c)) 8
+behind-8 c = latter-says (order (head (past-4 c))) 4 4 8 (second-four (c .before)) (c .if3 .left) refl ∙ behind-4 (past-4 c)
 
-behind-12 : (c : tie.Else4) → Left (c .before .before .before .before .before .before) 12
-behind-12 c =
-    let head = c .before .before .before .before .before .before in
-    latter-says (order head) 8 4 4 (third-four (c .before)) (c .if4 .left) refl ∙ behind-8 (c .before .before)
+behind-12 : (c : tie.Else4) → Left (head (past-4 (past-8 c))) 12
+behind-12 c = latter-says (order (head (past-4 (past-8 c)))) 8 4 4 (third-four (c .before)) (c .if4 .left) refl ∙ behind-8 (past-8 c)
 
 pub base-spec : {M : Type 1} → statement M
 base-spec =
@@ -84,8 +90,8 @@ base-spec =
     (λ c. whole-refuses base-row noWindows _ First (c .before .whole-header .ensures) (c .before .before .before .pre .1) (c .if1 .taken))
     (λ c κs. omega (arith, fits c))
     (λ c. former-says (order (c .before .before)) 0 4 12 (first-four (c .before)) (c .if2 .taken) ∙ all-left (c .before .before))
-    (λ c κs. omega (arith, fits (c .before .before)))
-    (λ c. former-says (order (c .before .before .before .before)) 4 4 8 (second-four (c .before)) (c .if3 .taken) ∙ behind-4 (c .before .before))
-    (λ c κs. omega (arith, fits (c .before .before .before .before)))
-    (λ c. former-says (order (c .before .before .before .before .before .before)) 8 4 4 (third-four (c .before)) (c .if4 .taken) ∙ behind-8 (c .before .before))
-    (λ c κs. omega (arith, fits (c .before .before .before .before .before .before))) (λ c. last-four c ∙ behind-12 (c .before)))
+    (λ c κs. omega (arith, fits (head c)))
+    (λ c. former-says (order (head (c .before .before))) 4 4 8 (second-four (c .before)) (c .if3 .taken) ∙ behind-4 (c .before .before))
+    (λ c κs. omega (arith, fits (head (past-4 c))))
+    (λ c. former-says (order (head (past-4 (c .before .before)))) 8 4 4 (third-four (c .before)) (c .if4 .taken) ∙ behind-8 (c .before .before))
+    (λ c κs. omega (arith, fits (head (past-4 (past-8 c))))) (λ c. last-four c ∙ behind-12 (c .before)))

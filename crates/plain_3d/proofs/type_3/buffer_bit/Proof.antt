@@ -36,7 +36,7 @@ all-left c =
     (bit-in vertexBuffersRow refl _ _ (s .pre) 2 (omega arith) refl refl)
     (free-in vertexBuffersRow refl _ _ (s .pre) 3 (omega arith) refl refl (free (k + 3) .fits))
 
-first-kept : (c : tie.Else1) → Left (c .before .before .before .before) 1
+first-kept : (c : tie.Else1) → let start = c .before .before .before .before in Left start 1
 first-kept c = passes _ _ (asked (c .before .allowed .ensures) (c .if1 .left)) (all-left (c .before .before .before))
 
 pub buffer-bit-spec : {M : Type 1} → statement M

@@ -16,21 +16,24 @@ header : (c : tie.Start) → HeaderRight (c .args .w) vertexBuffersRow (c .args 
 unfolding inGroup valueRules ruleOf valueWrong usesByRow accessOf accessAt rangeWrong
 header c = record { some = c .pre .0 .0; bits = c .pre .1; value = refl; range = refl; quiet = refl }
 
+abbrev start : tie.After-first-of-buffers → tie.Start
+start c = c .before .before .before .before
+
 pub buffers-spec : {M : Type 1} → statement M
 buffers-spec =
     tie.close
     (tie.spec (λ c κs. search needs)
     (λ c. all-clean (header (c .before .before .before)) (c .before .buffers-good .ensures) (c .if1 .taken))
     (λ c κs. search needs)
-    (λ c. bit-first (header (c .before .before .before .before .before)) (c .before .first-of-buffers .ensures) (c .if2 .taken))
+    (λ c. bit-first (header (start (c .before))) (c .before .first-of-buffers .ensures) (c .if2 .taken))
     (λ c κs. search needs)
     (λ c.
     let bits = c .before .before .before in
-    value-first (header (bits .before .before .before .before)) (bits .first-of-buffers .ensures) (c .before .before .if2 .left)
+    value-first (header (start bits)) (bits .first-of-buffers .ensures) (c .before .before .if2 .left)
     (c .before .first-of-buffers2 .ensures) (c .if3 .taken))
     (λ c κs. search needs)
     (λ c.
     let values = c .before .before in
     let bits = values .before .before in
-    range-last (header (bits .before .before .before .before)) (bits .first-of-buffers .ensures) (values .before .if2 .left)
+    range-last (header (start bits)) (bits .first-of-buffers .ensures) (values .before .if2 .left)
     (values .first-of-buffers2 .ensures) (c .before .if3 .left) (c .first-of-buffers3 .ensures)))

@@ -33,7 +33,7 @@ all-left c =
     in-two _ _ k (bit-in vertexElementsRow refl _ _ (s .pre) 0 (omega arith) (omega arith) refl)
     (bit-in vertexElementsRow refl _ _ (s .pre) 1 (omega arith) refl refl)
 
-first-kept : (c : tie.Else1) → Left (c .before .before .before .before) 1
+first-kept : (c : tie.Else1) → let start = c .before .before .before .before in Left start 1
 first-kept c = passes _ _ (asked (c .before .allowed .ensures) (c .if1 .left)) (all-left (c .before .before .before))
 
 pub element-bit-spec : {M : Type 1} → statement M

@@ -46,10 +46,13 @@ all-left s =
     ∙ in-two _ _ k (value-in vertexElementsRow refl _ _ (s .pre .0) 0 (omega arith) (omega arith) ∙ or-false (index || format))
     (value-in vertexElementsRow refl _ _ (s .pre .0) 1 (omega arith) refl))
 
-low : (c : tie.Else1) → Left (c .before .before .before) 1
-low c = passes _ _ (le-ltb _ _ (low-index _ (c .if1 .left))) (all-left (c .before .before .before))
+abbrev start : tie.Else1 → tie.Start
+start c = c .before .before .before
 
-known : (c : tie.Else2) → Left (c .before .before .before .before .before) 2
+low : (c : tie.Else1) → Left (start c) 1
+low c = passes _ _ (le-ltb _ _ (low-index _ (c .if1 .left))) (all-left (start c))
+
+known : (c : tie.Else2) → Left (start (c .before .before)) 2
 known c = passes _ _ (asked (c .before .known-format .ensures) (c .if2 .left)) (low (c .before .before))
 
 pub element-value-spec : {M : Type 1} → statement M
@@ -64,6 +67,6 @@ element-value-spec =
     (λ c κs. search needs) (λ c κs. search needs)
     (λ c. c .at2 .ensures ∙ refuses _ _ (asked (c .before .before .known-format .ensures) (c .before .if2 .taken)) (low (c .before .before .before)))
     (λ c. search needs) (λ c. search needs) (λ c. search needs)
-    (λ c κs. c .before .before .before .before .before .before .pre .1) (λ c. search needs) (λ c κs. search needs)
-    (λ c. c .at3 .ensures ∙ refuses _ _ (asked (c .before .before .controls-good .ensures) (c .before .if3 .taken)) (known (c .before .before .before .before)))
+    (λ c κs. let known = c .before in start (known .before .before) .pre .1) (λ c. search needs) (λ c κs. search needs)
+    (λ c. let test = c .before .before in c .at3 .ensures ∙ refuses _ _ (asked (test .controls-good .ensures) (c .before .if3 .taken)) (known (test .before .before)))
     (λ c. passes _ _ (asked (c .before .controls-good .ensures) (c .if3 .left)) (known (c .before .before .before))))

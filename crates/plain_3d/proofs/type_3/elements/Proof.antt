@@ -18,6 +18,9 @@ header : (c : tie.Start) → HeaderRight noWindows vertexElementsRow (c .args .d
 unfolding inGroup valueRules ruleOf valueWrong usesByRow accessOf accessAt rangeWrong
 header c = record { some = c .pre .0 .0; bits = c .pre .1; value = refl; range = refl; quiet = refl }
 
+abbrev start : tie.After-first-of-elements → tie.Start
+start c = c .before .before .before .before
+
 pub elements-spec : {M : Type 1} → statement M
 unfolding usesByRow accessOf
 elements-spec =
@@ -25,9 +28,9 @@ elements-spec =
     (tie.spec (λ c κs. search needs)
     (λ c. all-clean (header (c .before .before .before)) (c .before .elements-good .ensures) (c .if1 .taken))
     (λ c κs. (c .before .before .before .pre .0, λ v. absurd (omega arith)))
-    (λ c. bit-first (header (c .before .before .before .before .before)) (c .before .first-of-elements .ensures) (c .if2 .taken))
-    (λ c κs. (c .before .before .before .before .before .pre .0, λ v. sym (c .before .first-of-elements .ensures) ∙ c .if2 .left))
+    (λ c. bit-first (header (start (c .before))) (c .before .first-of-elements .ensures) (c .if2 .taken))
+    (λ c κs. (start (c .before) .pre .0, λ v. sym (c .before .first-of-elements .ensures) ∙ c .if2 .left))
     (λ c.
     let bits = c .before .before in
-    value-last (header (bits .before .before .before .before)) (bits .first-of-elements .ensures) (c .before .if2 .left)
+    value-last (header (start bits)) (bits .first-of-elements .ensures) (c .before .if2 .left)
     (c .first-of-elements2 .ensures) refl))

@@ -11,6 +11,9 @@ use Rattle.plain_mi.proofs.Tests.{asked}
 use Rattle.plain_3d.proofs.type_3.four_bits.Statement.{statement}
 use Rattle.plain_3d.proofs.type_3.four_bits.Tie as tie
 
+abbrev start : tie.Else1 → tie.Start
+start c = c .before .before .before .before
+
 first : tie.Need-returns
 unfolding coded numberOf strayFrom
 first c = rw (asked (c .before .before .allowed .ensures) (c .before .if1 .taken)) (omega arith)
@@ -29,7 +32,7 @@ third c =
     let called = c .before .before in
     let second-kept = called .before .before in
     let first-kept = second-kept .before .before .before in
-    let k = first-kept .before .before .before .before .args .k in
+    let k = start first-kept .args .k in
     let p : k + 1 + 1 ≡ k + 2 = omega arith in
     rw (
       asked (first-kept .before .allowed .ensures) (first-kept .if1 .left),
@@ -45,7 +48,7 @@ fourth c =
     let third-kept = called .before .before in
     let second-kept = third-kept .before .before .before in
     let first-kept = second-kept .before .before .before in
-    let k = first-kept .before .before .before .before .args .k in
+    let k = start first-kept .args .k in
     let p : k + 1 + 1 ≡ k + 2 = omega arith in
     let q : k + 2 + 1 ≡ k + 3 = omega arith in
     rw (
@@ -64,7 +67,7 @@ none c =
     let third-kept = called .before .before in
     let second-kept = third-kept .before .before .before in
     let first-kept = second-kept .before .before .before in
-    let k = first-kept .before .before .before .before .args .k in
+    let k = start first-kept .args .k in
     let p : k + 1 + 1 ≡ k + 2 = omega arith in
     let q : k + 2 + 1 ≡ k + 3 = omega arith in
     rw (

@@ -35,24 +35,43 @@ all-left c =
     let given = c .before .before .shared-slice-known .given in
     pipe-tested _ _ (c .before .whole-header .ensures) (c .if1 .left) (given 4 .fits) (given 5 .fits)
 
-first-kept : (c : tie.Else2) → Bits (c .before .before .before) 1
-first-kept c = passes 2561 _ (asked (c .before .allowed .ensures) (c .if2 .left)) (all-left (c .before .before .before))
+-- where the test before was passed: the header's, those of the first three dwords, and whether there is post-sync
+abbrev whole : tie.Else2 → tie.Else1
+whole c = c .before .before .before
 
-second-kept : (c : tie.Else3) → Bits (c .before .before .before .before .before .before) 2
-second-kept c = passes 2562 _ (asked (c .before .allowed2 .ensures) (c .if3 .left)) (first-kept (c .before .before .before))
+abbrev first : tie.Else3 → tie.Else2
+first c = c .before .before .before
 
-third-kept : (c : tie.Else4) → Bits (c .before .before .before .before .before .before .before .before .before) 3
-third-kept c = passes 2563 _ (asked (c .before .allowed3 .ensures) (c .if4 .left)) (second-kept (c .before .before .before))
+abbrev second : tie.Else4 → tie.Else3
+second c = c .before .before .before
+
+abbrev third : tie.Else5 → tie.Else4
+third c = c .before .before
+
+abbrev sync : tie.Else6 → tie.Else5
+sync c = c .before .before
+
+abbrev head : tie.Else4 → tie.Else1
+head c = whole (first (second c))
+
+first-kept : (c : tie.Else2) → Bits (whole c) 1
+first-kept c = passes 2561 _ (asked (c .before .allowed .ensures) (c .if2 .left)) (all-left (whole c))
+
+second-kept : (c : tie.Else3) → Bits (whole (first c)) 2
+second-kept c = passes 2562 _ (asked (c .before .allowed2 .ensures) (c .if3 .left)) (first-kept (first c))
+
+third-kept : (c : tie.Else4) → Bits (head c) 3
+third-kept c = passes 2563 _ (asked (c .before .allowed3 .ensures) (c .if4 .left)) (second-kept (second c))
 
 -- with post-sync, of 12 and 13 the tests behind the first k
 abbrev Left : tie.Else1 → ℕ → Type 0
 Left c k = answered (drop k (pipe-tests (start c .args .w) (start c .args .rest .now))) 0 ≡ wrong c
 
-synced : (c : tie.Else5) → Left (c .before .before .before .before .before .before .before .before .before .before .before) 0
-synced c = pipe-synced _ _ (c .if5 .left) ∙ third-kept (c .before .before)
+synced : (c : tie.Else5) → Left (head (third c)) 0
+synced c = pipe-synced _ _ (c .if5 .left) ∙ third-kept (third c)
 
-aligned : (c : tie.Else6) → Left (c .before .before .before .before .before .before .before .before .before .before .before .before .before) 1
-aligned c = passes 3074 _ (ap not (eq-eqb _ _ (c .if6 .left))) (synced (c .before .before))
+aligned : (c : tie.Else6) → Left (head (third (sync c))) 1
+aligned c = passes 3074 _ (ap not (eq-eqb _ _ (c .if6 .left))) (synced (sync c))
 
 unsynced : tie.Need-returns-5
 unsynced c =
@@ -60,18 +79,22 @@ unsynced c =
     let kept = left .before .before in
     c .pipe-unsynced .ensures ∙ pipe-unsynced _ _ (left .if5 .taken) ∙ third-kept kept
 
+-- and where all were, before it is asked whether scratch holds the address
+abbrev passed : tie.After-holds → tie.Else6
+passed c = c .before .before .before .before
+
 outside : tie.Need-returns-7
 outside c =
     let fit = c .before .before in
     c .at5 .ensures
     ∙ refuses 3330 _ (asked (scratch-holds _ 8 (fit .before .address-of .ensures) (fit .holds .ensures)) (c .before .if7 .taken))
-    (aligned (fit .before .before .before .before))
+    (aligned (passed fit))
 
 nothing : tie.Need-returns-8
 nothing c =
     let fit = c .before in
     passes 3330 _ (asked (scratch-holds _ 8 (fit .before .address-of .ensures) (fit .holds .ensures)) (c .if7 .left))
-    (aligned (fit .before .before .before .before))
+    (aligned (passed fit))
 
 pub pipe-spec : {M : Type 1} → statement M
 pipe-spec =
@@ -79,15 +102,15 @@ pipe-spec =
     (tie.spec (λ c κs. search needs)
     (λ c. whole-refuses pipe-row _ _ First (c .before .whole-header .ensures) (c .before .before .before .pre .1) (c .if1 .taken))
     (λ c. omega (arith, fits (c .before))) (λ c κs. search needs) (λ c κs. search needs)
-    (λ c. c .at .ensures ∙ refuses 2561 _ (asked (c .before .before .allowed .ensures) (c .before .if2 .taken)) (all-left (c .before .before .before .before)))
-    (λ c. omega (arith, fits (c .before .before .before .before))) (λ c κs. search needs) (λ c κs. search needs)
-    (λ c. c .at2 .ensures ∙ refuses 2562 _ (asked (c .before .before .allowed2 .ensures) (c .before .if3 .taken)) (first-kept (c .before .before .before .before)))
-    (λ c. omega (arith, fits (c .before .before .before .before .before .before .before))) (λ c κs. search needs) (λ c κs. search needs)
-    (λ c. c .at3 .ensures ∙ refuses 2563 _ (asked (c .before .before .allowed3 .ensures) (c .before .if4 .taken)) (second-kept (c .before .before .before .before)))
-    (λ c. omega (arith, fits (c .before .before .before .before .before .before .before .before .before .before)))
-    (λ c κs. (fits (c .before .before .before .before .before .before .before .before .before .before .before), c .if5 .taken)) unsynced
-    (λ c. omega (arith, fits (c .before .before .before .before .before .before .before .before .before .before .before .before))) (λ c κs. search needs)
+    (λ c. let test = c .before .before in c .at .ensures ∙ refuses 2561 _ (asked (test .allowed .ensures) (c .before .if2 .taken)) (all-left (test .before .before)))
+    (λ c. omega (arith, fits (whole (c .before)))) (λ c κs. search needs) (λ c κs. search needs)
+    (λ c. let test = c .before .before in c .at2 .ensures ∙ refuses 2562 _ (asked (test .allowed2 .ensures) (c .before .if3 .taken)) (first-kept (test .before .before)))
+    (λ c. omega (arith, fits (whole (first (c .before))))) (λ c κs. search needs) (λ c κs. search needs)
+    (λ c. let test = c .before .before in c .at3 .ensures ∙ refuses 2563 _ (asked (test .allowed3 .ensures) (c .before .if4 .taken)) (second-kept (test .before .before)))
+    (λ c. omega (arith, fits (head (c .before))))
+    (λ c κs. (fits (head (c .before .before)), c .if5 .taken)) unsynced
+    (λ c. omega (arith, fits (head (third (c .before))))) (λ c κs. search needs)
     (λ c. c .at4 .ensures ∙ refuses 3074 _ (ap not (ne-eqb _ _ (c .before .if6 .taken))) (synced (c .before .before .before)))
-    (λ c. omega (arith, fits (c .before .before .before .before .before .before .before .before .before .before .before .before .before .before)))
-    (λ c. omega (arith, fits (c .before .before .before .before .before .before .before .before .before .before .before .before .before .before .before)))
+    (λ c. omega (arith, fits (head (third (sync (c .before))))))
+    (λ c. omega (arith, fits (head (third (sync (c .before .before))))))
     (λ c κs. search needs) (λ c κs. search needs) (λ c κs. search needs) outside nothing)

@@ -15,7 +15,7 @@ unfolding coded firstFrom numberOf inGroup rows theRow groupSize valueWrong valu
 pipe-unsynced-spec =
     tie.close
     (tie.spec (λ c. search needs) (λ c κs. search needs)
-    (λ c. rw (c .before .before .before .before .pre .1, ne-eqb _ _ (c .before .if1 .taken)) (c .at .ensures))
+    (λ c. let start = c .before .before .before .before in rw (start .pre .1, ne-eqb _ _ (c .before .if1 .taken)) (c .at .ensures))
     (λ c. search needs) (λ c κs. search needs)
     (λ c.
     let second = c .before .before .before in

@@ -30,5 +30,5 @@ pointer-spec =
     (tie.spec (λ c κs. search needs) header-says
     (λ c. omega (arith, head-fits _ _ (c .before .before .whole-header .ensures) (c .before .if1 .left)))
     (λ c κs. search needs) (λ c κs. search needs)
-    (λ c. c .at .ensures ∙ refuses 2561 0 (asked (c .before .before .allowed .ensures) (c .before .if2 .taken)) (dword-left (c .before .before .before .before)))
+    (λ c. let test = c .before .before in c .at .ensures ∙ refuses 2561 0 (asked (test .allowed .ensures) (c .before .if2 .taken)) (dword-left (test .before .before)))
     (λ c. passes 2561 0 (asked (c .before .allowed .ensures) (c .if2 .left)) (dword-left (c .before .before .before))))

@@ -38,17 +38,30 @@ all-left s =
     (searched-last ValueBroken (valueWrong primitiveRow (s .args .rest .now)) 0 7
     ∙ rw (s .pre .2, ← s .pre .1, or-false) (sym (one-by-one (eqb (s .args .header / 0x400 % 2) 1) _ 3073 (answered (drop 2 (tests (s .args .header) (s .args .rest .now))) 0))))
 
-header-clear : (c : tie.Else1) → Left (c .before .before) 1
-header-clear c = passes 3073 _ (ne-eqb _ _ (c .if1 .left)) (all-left (c .before .before))
+-- where the function starts, and where the test before was passed: the header's, the first dword's, and the third's
+abbrev start : tie.Else1 → tie.Start
+start c = c .before .before
 
-bit-clear : (c : tie.Else2) → Left (c .before .before .before .before) 2
-bit-clear c = passes 3073 _ (ne-eqb _ _ (c .if2 .left)) (header-clear (c .before .before))
+abbrev header : tie.Else2 → tie.Else1
+header c = c .before .before
 
-third-clear : (c : tie.Else3) → Left (c .before .before .before .before .before .before) 3
-third-clear c = passes 3075 _ (ap not (eq-eqb _ _ (c .if3 .left))) (bit-clear (c .before .before))
+abbrev bit : tie.Else3 → tie.Else2
+bit c = c .before .before
 
-fifth-clear : (c : tie.Else4) → Left (c .before .before .before .before .before .before .before .before) 4
-fifth-clear c = passes 3077 _ (ap not (eq-eqb _ _ (c .if4 .left))) (third-clear (c .before .before))
+abbrev third : tie.Else4 → tie.Else3
+third c = c .before .before
+
+header-clear : (c : tie.Else1) → Left (start c) 1
+header-clear c = passes 3073 _ (ne-eqb _ _ (c .if1 .left)) (all-left (start c))
+
+bit-clear : (c : tie.Else2) → Left (start (header c)) 2
+bit-clear c = passes 3073 _ (ne-eqb _ _ (c .if2 .left)) (header-clear (header c))
+
+third-clear : (c : tie.Else3) → Left (start (header (bit c))) 3
+third-clear c = passes 3075 _ (ap not (eq-eqb _ _ (c .if3 .left))) (bit-clear (bit c))
+
+fifth-clear : (c : tie.Else4) → Left (start (header (bit (third c)))) 4
+fifth-clear c = passes 3077 _ (ap not (eq-eqb _ _ (c .if4 .left))) (third-clear (third c))
 
 pub primitive-by-end-spec : {M : Type 1} → statement M
 primitive-by-end-spec =

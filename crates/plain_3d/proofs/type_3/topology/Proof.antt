@@ -24,8 +24,11 @@ Left c k = let d = c .before .before .before .args .rest .now in answered (drop 
 all-left : (c : tie.Else1) → Left c 0
 all-left c = topology-tested noWindows _ (c .before .whole-header .ensures) (c .if1 .left)
 
-masked : (c : tie.Else2) → Left (c .before .before .before) 1
-masked c = passes 2561 _ (asked (c .before .allowed .ensures) (c .if2 .left)) (all-left (c .before .before .before))
+abbrev whole : tie.Else2 → tie.Else1
+whole c = c .before .before .before
+
+masked : (c : tie.Else2) → Left (whole c) 1
+masked c = passes 2561 _ (asked (c .before .allowed .ensures) (c .if2 .left)) (all-left (whole c))
 
 pub topology-spec : {M : Type 1} → statement M
 topology-spec =
@@ -34,7 +37,7 @@ topology-spec =
     (λ c. whole-refuses topology-row noWindows _ First (c .before .whole-header .ensures) (c .before .before .before .pre .1) (c .if1 .taken))
     (λ c. omega (arith, fits (c .before)))
     (λ c κs. search needs) (λ c κs. search needs)
-    (λ c. c .at .ensures ∙ refuses 2561 _ (asked (c .before .before .allowed .ensures) (c .before .if2 .taken)) (all-left (c .before .before .before .before)))
-    (λ c. omega (arith, fits (c .before .before .before .before))) (λ c κs. search needs) (λ c κs. search needs)
-    (λ c. c .at2 .ensures ∙ refuses 3073 _ (asked (c .before .before .known-topology .ensures) (c .before .if3 .taken)) (masked (c .before .before .before .before)))
+    (λ c. let test = c .before .before in c .at .ensures ∙ refuses 2561 _ (asked (test .allowed .ensures) (c .before .if2 .taken)) (all-left (test .before .before)))
+    (λ c. omega (arith, fits (whole (c .before)))) (λ c κs. search needs) (λ c κs. search needs)
+    (λ c. let test = c .before .before in c .at2 .ensures ∙ refuses 3073 _ (asked (test .known-topology .ensures) (c .before .if3 .taken)) (masked (test .before .before)))
     (λ c. passes 3073 _ (asked (c .before .known-topology .ensures) (c .if3 .left)) (masked (c .before .before .before))))

@@ -31,4 +31,4 @@ vertex-buffers-spec =
     (λ c. search needs) (λ c κs. search needs)
     (λ c. own (c .before .before .before) (c .before .length-by-field .ensures) .long)
     (λ c κs. own (c .before .before .before) (c .before .length-by-field .ensures) .right)
-    (λ c. own (c .before .before .before .before) (c .before .before .length-by-field .ensures) .says (c .buffers .ensures)))
+    (λ c. let long = c .before .before in own (long .before .before) (long .length-by-field .ensures) .says (c .buffers .ensures)))

@@ -33,7 +33,8 @@ module _ (header size most : ℕ) where
           by (suc q) p = omega arith
 
 -- the length that the code asks for
-ends : (c : tie.After-length-by-field) → getD (c .before .before .before .before .before .args .rest .now) 0 0 % 256 + 2 ≡ c .length-by-field .result
+ends : (c : tie.After-length-by-field) → let start = c .before .before .before .before .before in
+    getD (start .args .rest .now) 0 0 % 256 + 2 ≡ c .length-by-field .result
 ends c = sym (c .length-by-field .ensures ∙ ap (λ (f : ℕ). f + 2) (field-is _))
 
 pub groups-header-spec : {M : Type 1} → statement M
@@ -41,9 +42,9 @@ unfolding headOf groupsHeader
 groups-header-spec =
     tie.close
     (tie.spec (λ c. search needs) (λ c. search needs) (λ c. search needs) (λ c κs. search needs)
-    (λ c. rw (uneven _ _ (c .before .before .before .before .args .most) (c .before .if1 .taken)) (c .at .ensures))
+    (λ c. let start = c .before .before .before .before in rw (uneven _ _ (start .args .most) (c .before .if1 .taken)) (c .at .ensures))
     (λ c. search needs) (λ c. search needs) (λ c κs. search needs)
-    (λ c. rw (too-many _ (c .before .before .before .before .before .args .size) _ (c .before .if2 .taken)) (c .at2 .ensures))
+    (λ c. let start = c .before .before .before .before .before in rw (too-many _ (start .args .size) _ (c .before .if2 .taken)) (c .at2 .ensures))
     (λ c κs. search needs) (λ c κs. search needs)
     (λ c.
     let call = c .before .before in

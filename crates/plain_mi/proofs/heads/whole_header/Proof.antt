@@ -10,7 +10,7 @@ use Rattle.plain_mi.proofs.heads.whole_header.Statement.{statement}
 use Rattle.plain_mi.proofs.heads.whole_header.Tie as tie
 
 -- the length that the code asks for
-ends : (c : tie.After-length-by-field) → c .before .before .before .before .args .header % 256 + 2 ≡ c .length-by-field .result
+ends : (c : tie.After-length-by-field) → let start = c .before .before .before .before in start .args .header % 256 + 2 ≡ c .length-by-field .result
 ends c = sym (c .length-by-field .ensures ∙ ap (λ (f : ℕ). f + 2) (field-is _))
 
 pub whole-header-spec : {M : Type 1} → statement M

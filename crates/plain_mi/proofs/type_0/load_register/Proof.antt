@@ -14,10 +14,13 @@ use Rattle.plain_mi.proofs.type_0.load_register.Tie as tie
 fits : (c : tie.Else1) → 4 ≤ length (c .before .before .before .args .rest .now)
 fits c = register-fits (loads (c .before .before .before .args .w)) _ (c .before .register-and-address .ensures) (c .if1 .left)
 
+abbrev passed : tie.After-anywhere → tie.Else1
+passed c = c .before .before .before .before
+
 outside : tie.Need-returns-2
 outside c =
     let fit = c .before .before in
-    let right = fit .before .before .before .before in
+    let right = passed fit in
     c .at .ensures
     ∙ addressed (loads _) _ (right .before .register-and-address .ensures) (right .if1 .left) true
     (any-fits _ 4 (fit .before .address-of .ensures) (fit .anywhere .ensures)) (c .before .if2 .taken)
@@ -25,7 +28,7 @@ outside c =
 nothing : tie.Need-returns-3
 nothing c =
     let fit = c .before in
-    let right = fit .before .before .before .before in
+    let right = passed fit in
     addressed (loads _) _ (right .before .register-and-address .ensures) (right .if1 .left) false
     (any-fits _ 4 (fit .before .address-of .ensures) (fit .anywhere .ensures)) (c .if2 .left)
 

@@ -17,15 +17,18 @@ header : (c : tie.Start) → HeaderRight noWindows setRegistersRow (c .args .d .
 unfolding inGroup valueRules ruleOf valueWrong usesByRow accessOf accessAt rangeWrong
 header c = record { some = c .pre .0 .0; bits = c .pre .1; value = refl; range = refl; quiet = refl }
 
+abbrev start : tie.After-first-of-pairs → tie.Start
+start c = c .before .before .before .before
+
 pub pairs-spec : {M : Type 1} → statement M
 unfolding usesByRow accessOf
 pairs-spec =
     tie.close
     (tie.spec (λ c κs. search needs)
     (λ c. all-clean (header (c .before .before .before)) (c .before .pairs-good .ensures) (c .if1 .taken))
-    (λ c κs. search needs) (λ c. bit-first (header (c .before .before .before .before .before)) (c .before .first-of-pairs .ensures) (c .if2 .taken))
+    (λ c κs. search needs) (λ c. bit-first (header (start (c .before))) (c .before .first-of-pairs .ensures) (c .if2 .taken))
     (λ c κs. search needs)
     (λ c.
     let bits = c .before .before in
-    value-last (header (bits .before .before .before .before)) (bits .first-of-pairs .ensures) (c .before .if2 .left)
+    value-last (header (start bits)) (bits .first-of-pairs .ensures) (c .before .if2 .left)
     (c .first-of-pairs2 .ensures) refl))

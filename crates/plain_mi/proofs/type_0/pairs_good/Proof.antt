@@ -24,6 +24,9 @@ start c = c .before .before .before
 turn : (c : tie.In-loop Inv-loop μ-loop) → Turn (freeFrom (faulty noWindows setRegistersRow (start c .args .d .now))) 2 (length (start c .args .d .now)) (c .before .loop .k)
 turn c = turn-at (c .before .loop .inv) (start c .pre .1) (c .loop-test .taken)
 
+abbrev inside : tie.After-pair-value Inv-loop μ-loop → tie.In-loop Inv-loop μ-loop
+inside c = c .before .before .before
+
 pub pairs-good-spec : {M : Type 1} → statement M
 unfolding usesByRow accessOf
 pairs-good-spec =
@@ -34,10 +37,10 @@ pairs-good-spec =
     (bits-fail noWindows setRegistersRow _ _ 2 (λ z. c .if1 .taken (c .before .pair-bit .ensures ∙ z))))
     (λ c κs. turn (c .before .before) .there)
     (λ c.
-    fails-there (free-in-order _) (turn (c .before .before .before .before))
+    fails-there (free-in-order _) (turn (inside (c .before)))
     (values-fail noWindows setRegistersRow _ _ 2 (λ z. c .if2 .taken (c .before .pair-value .ensures ∙ z))))
-    (λ c. omega (arith, turn (c .before .before .before .before) .there .1))
-    (λ c. let t = c .before .before .before .before .loop-test .taken in omega (arith, t))
+    (λ c. omega (arith, turn (inside (c .before)) .there .1))
+    (λ c. let t = inside (c .before) .loop-test .taken in omega (arith, t))
     (λ c.
     let bits = c .before .before .before in
     clean-there (free-in-order _) (turn (bits .before))

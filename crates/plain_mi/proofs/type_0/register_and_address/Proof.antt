@@ -25,25 +25,35 @@ Left c k = answered (drop k (register-tests (start c .args .rest .now))) 0 ≡ r
 all-left : (c : tie.Else1) → Left c 0
 all-left c = register-tested _ _ (c .before .whole-header .ensures) (c .if1 .left)
 
-first-kept : (c : tie.Else2) → Left (c .before .before .before) 1
-first-kept c = passes 2561 _ (asked (c .before .allowed .ensures) (c .if2 .left)) (all-left (c .before .before .before))
+-- where the test before was passed: the header's, and those of the first two dwords
+abbrev header : tie.Else2 → tie.Else1
+header c = c .before .before .before
 
-second-kept : (c : tie.Else3) → Left (c .before .before .before .before .before .before) 2
-second-kept c = passes 2562 _ (asked (c .before .allowed2 .ensures) (c .if3 .left)) (first-kept (c .before .before .before))
+abbrev first : tie.Else3 → tie.Else2
+first c = c .before .before .before
 
-third-kept : (c : tie.Else4) → Left (c .before .before .before .before .before .before .before .before .before) 3
-third-kept c = passes 2563 _ (asked (c .before .allowed3 .ensures) (c .if4 .left)) (second-kept (c .before .before .before))
+abbrev second : tie.Else4 → tie.Else3
+second c = c .before .before .before
+
+first-kept : (c : tie.Else2) → Left (header c) 1
+first-kept c = passes 2561 _ (asked (c .before .allowed .ensures) (c .if2 .left)) (all-left (header c))
+
+second-kept : (c : tie.Else3) → Left (header (first c)) 2
+second-kept c = passes 2562 _ (asked (c .before .allowed2 .ensures) (c .if3 .left)) (first-kept (first c))
+
+third-kept : (c : tie.Else4) → Left (header (first (second c))) 3
+third-kept c = passes 2563 _ (asked (c .before .allowed3 .ensures) (c .if4 .left)) (second-kept (second c))
 
 pub register-and-address-spec : {M : Type 1} → statement M
 register-and-address-spec =
     tie.close
     (tie.spec (λ c κs. search needs) (λ c. header-says _ _ (c .before .whole-header .ensures) (c .if1 .taken))
     (λ c. omega (arith, fits (c .before))) (λ c κs. search needs) (λ c κs. search needs)
-    (λ c. c .at .ensures ∙ refuses 2561 _ (asked (c .before .before .allowed .ensures) (c .before .if2 .taken)) (all-left (c .before .before .before .before)))
-    (λ c. omega (arith, fits (c .before .before .before .before))) (λ c κs. search needs) (λ c κs. search needs)
-    (λ c. c .at2 .ensures ∙ refuses 2562 _ (asked (c .before .before .allowed2 .ensures) (c .before .if3 .taken)) (first-kept (c .before .before .before .before)))
-    (λ c. omega (arith, fits (c .before .before .before .before .before .before .before))) (λ c κs. search needs) (λ c κs. search needs)
-    (λ c. c .at3 .ensures ∙ refuses 2563 _ (asked (c .before .before .allowed3 .ensures) (c .before .if4 .taken)) (second-kept (c .before .before .before .before)))
-    (λ c. omega (arith, fits (c .before .before .before .before .before .before .before .before .before .before))) (λ c κs. search needs) (λ c κs. search needs)
-    (λ c. c .at4 .ensures ∙ refuses 3073 _ (asked (c .before .before .known-register .ensures) (c .before .if5 .taken)) (third-kept (c .before .before .before .before)))
+    (λ c. let test = c .before .before in c .at .ensures ∙ refuses 2561 _ (asked (test .allowed .ensures) (c .before .if2 .taken)) (all-left (test .before .before)))
+    (λ c. omega (arith, fits (header (c .before)))) (λ c κs. search needs) (λ c κs. search needs)
+    (λ c. let test = c .before .before in c .at2 .ensures ∙ refuses 2562 _ (asked (test .allowed2 .ensures) (c .before .if3 .taken)) (first-kept (test .before .before)))
+    (λ c. omega (arith, fits (header (first (c .before))))) (λ c κs. search needs) (λ c κs. search needs)
+    (λ c. let test = c .before .before in c .at3 .ensures ∙ refuses 2563 _ (asked (test .allowed3 .ensures) (c .before .if4 .taken)) (second-kept (test .before .before)))
+    (λ c. omega (arith, fits (header (first (second (c .before)))))) (λ c κs. search needs) (λ c κs. search needs)
+    (λ c. let test = c .before .before in c .at4 .ensures ∙ refuses 3073 _ (asked (test .known-register .ensures) (c .before .if5 .taken)) (third-kept (test .before .before)))
     (λ c. passes 3073 _ (asked (c .before .known-register .ensures) (c .if5 .left)) (third-kept (c .before .before .before))))

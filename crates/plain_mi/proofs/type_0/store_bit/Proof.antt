@@ -24,5 +24,5 @@ store-bit-spec =
     (tie.spec (λ c. search needs) (λ c κs. search needs) (λ c κs. search needs)
     (λ c. c .at .ensures ∙ refuses 2561 _ (asked (c .before .before .allowed .ensures) (c .before .if1 .taken)) (store-bits _))
     (λ c. search needs) (λ c κs. search needs) (λ c κs. search needs)
-    (λ c. c .at2 .ensures ∙ refuses 2562 _ (asked (c .before .before .allowed2 .ensures) (c .before .if2 .taken)) (first-kept (c .before .before .before .before)))
+    (λ c. let test = c .before .before in c .at2 .ensures ∙ refuses 2562 _ (asked (test .allowed2 .ensures) (c .before .if2 .taken)) (first-kept (test .before .before)))
     (λ c. passes 2562 _ (asked (c .before .allowed2 .ensures) (c .if2 .left)) (first-kept (c .before .before .before))))

@@ -23,11 +23,17 @@ own c = let given = c .shared-slice-known .given in eight-bytes _ _ (c .before .
 abbrev Left : tie.Start → ℕ → Type 0
 Left s k = let d = s .args .rest .now in answered (drop k (eight-tests (s .args .w) d)) 0 ≡ wrongOf (s .args .w) storeRow d First
 
-kept : (c : tie.Else2) → Left (c .before .before .before .before) 0
+abbrev start : tie.Else2 → tie.Start
+start c = c .before .before .before .before
+
+kept : (c : tie.Else2) → Left (start c) 0
 kept c = let inside = c .before .before in bits-pass _ (own (inside .before)) (inside .if1 .left) (c .before .store-bit .ensures) (c .if2 .left)
 
-aligned : (c : tie.Else3) → Left (c .before .before .before .before .before .before) 1
+aligned : (c : tie.Else3) → Left (start (c .before .before)) 1
 aligned c = passes 3073 _ (ap not (eq-eqb _ _ (c .if3 .left))) (kept (c .before .before))
+
+abbrev passed : tie.After-holds → tie.Else3
+passed c = c .before .before .before .before
 
 pub store-eight-spec : {M : Type 1} → statement M
 store-eight-spec =
@@ -42,8 +48,8 @@ store-eight-spec =
     let fit = c .before .before in
     c .at3 .ensures
     ∙ refuses 3329 0 (asked (scratch-holds _ 8 (fit .before .address-of .ensures) (fit .holds .ensures)) (c .before .if4 .taken))
-    (aligned (fit .before .before .before .before)))
+    (aligned (passed fit)))
     (λ c.
     let fit = c .before in
     passes 3329 0 (asked (scratch-holds _ 8 (fit .before .address-of .ensures) (fit .holds .ensures)) (c .if4 .left))
-    (aligned (fit .before .before .before .before))))
+    (aligned (passed fit))))

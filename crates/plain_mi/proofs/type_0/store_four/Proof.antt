@@ -19,6 +19,9 @@ kept : (c : tie.Else2) → let s = c .before .before .before .before in
     answered (four-tests (s .args .w) (s .args .rest .now)) 0 ≡ wrongOf (s .args .w) storeRow (s .args .rest .now) First
 kept c = let inside = c .before .before in bits-pass _ (own (inside .before)) (inside .if1 .left) (c .before .store-bit .ensures) (c .if2 .left)
 
+abbrev passed : tie.After-holds → tie.Else2
+passed c = c .before .before .before .before
+
 pub store-four-spec : {M : Type 1} → statement M
 store-four-spec =
     tie.close
@@ -30,8 +33,8 @@ store-four-spec =
     let fit = c .before .before in
     c .at2 .ensures
     ∙ refuses 3329 0 (asked (scratch-holds _ 4 (fit .before .address-of .ensures) (fit .holds .ensures)) (c .before .if3 .taken))
-    (kept (fit .before .before .before .before)))
+    (kept (passed fit)))
     (λ c.
     let fit = c .before in
     passes 3329 0 (asked (scratch-holds _ 4 (fit .before .address-of .ensures) (fit .holds .ensures)) (c .if3 .left))
-    (kept (fit .before .before .before .before))))
+    (kept (passed fit))))

@@ -6,7 +6,10 @@ use Rattle.sentences.proofs.details.put_words.Statement.{statement}
 use Rattle.sentences.proofs.details.put_words.Tie as tie
 
 returns : tie.Need-returns
-returns c = then (c .before .before .before .before .before .before .put-text .ensures) (c .before .before .put-row .ensures)
+returns c =
+    let row = c .before .before in
+    let text = row .before .before .before .before in
+    then (text .put-text .ensures) (row .put-row .ensures)
 
 pub put-words-spec : {M : Type 1} → statement M
 put-words-spec = tie.close (tie.spec (λ c κs. search needs) (λ c κs. search needs) (λ c. search needs) returns)

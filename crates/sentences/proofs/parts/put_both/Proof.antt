@@ -6,7 +6,10 @@ use Rattle.sentences.proofs.parts.put_both.Statement.{statement}
 use Rattle.sentences.proofs.parts.put_both.Tie as tie
 
 returns : tie.Need-returns
-returns c = then (c .before .before .before .before .before .before .put-text .ensures) (c .before .before .put-text2 .ensures)
+returns c =
+    let second = c .before .before in
+    let first = second .before .before .before .before in
+    then (first .put-text .ensures) (second .put-text2 .ensures)
 
 pub put-both-spec : {M : Type 1} → statement M
 put-both-spec = tie.close (tie.spec (λ c κs. search needs) (λ c κs. search needs) (λ c. search needs) returns)

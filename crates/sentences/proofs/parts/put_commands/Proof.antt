@@ -15,7 +15,9 @@ returns c =
 
 returns-2 : tie.Need-returns-2
 unfolding commandsText
-returns-2 c = simp (ne-eqb _ _ (c .before .before .before .before .before .if1 .left)) (c .before .before .put-count2 .ensures)
+returns-2 c =
+    let count = c .before .before in
+    simp (ne-eqb _ _ (count .before .before .before .if1 .left)) (count .put-count2 .ensures)
 
 pub put-commands-spec : {M : Type 1} → statement M
 put-commands-spec =

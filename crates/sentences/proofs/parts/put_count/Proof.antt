@@ -6,7 +6,10 @@ use Rattle.sentences.proofs.parts.put_count.Statement.{statement}
 use Rattle.sentences.proofs.parts.put_count.Tie as tie
 
 returns : tie.Need-returns
-returns c = then (c .before .before .before .before .before .before .put-digits .ensures) (c .before .before .put-text .ensures)
+returns c =
+    let text = c .before .before in
+    let digits = text .before .before .before .before in
+    then (digits .put-digits .ensures) (text .put-text .ensures)
 
 pub put-count-spec : {M : Type 1} → statement M
 put-count-spec = tie.close (tie.spec (λ c κs. search needs) (λ c κs. search needs) (λ c. search needs) returns)

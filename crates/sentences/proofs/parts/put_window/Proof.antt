@@ -11,6 +11,6 @@ unfolding windowText
 put-window-spec =
     tie.close
     (tie.spec (λ c. search needs) (λ c κs. search needs) (λ c. search needs) (λ c κs. search needs) (λ c. search needs)
-    (λ c. simp (eq-eqb _ _ (c .before .before .before .before .before .if1 .taken)) (c .before .before .put-text .ensures))
+    (λ c. let text = c .before .before in simp (eq-eqb _ _ (text .before .before .before .if1 .taken)) (text .put-text .ensures))
     (λ c. search needs)
-    (λ c. simp (ne-eqb _ _ (c .before .before .before .before .before .if1 .left)) (c .before .before .put-text2 .ensures)))
+    (λ c. let text = c .before .before in simp (ne-eqb _ _ (text .before .before .before .if1 .left)) (text .put-text2 .ensures)))

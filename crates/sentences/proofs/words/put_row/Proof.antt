@@ -14,14 +14,18 @@ slice-aggregate-put-text c = sym (front-counts (c .before .before .width .ensure
 
 put-text-requires : tie.Need-put-text-requires
 put-text-requires c κs =
-    let row : 64 ≡ length (c .before .before .before .before .before .args .t3) = search needs in
-    let front = front-counts (c .before .before .width .ensures) in
-    omega (arith, c .before .before .width .ensures .within)
+    let width = c .before .before in
+    let start = width .before .before .before in
+    let row : 64 ≡ length (start .args .t3) = search needs in
+    let front = front-counts (width .width .ensures) in
+    omega (arith, width .width .ensures .within)
 
 returns : tie.Need-returns
 returns c =
-    let found = c .before .before .before .before .before .width .ensures in
-    let row : 64 ≡ length (c .before .before .before .before .before .before .before .before .args .t3) = search needs in
+    let width = c .before .before .before .before .before in
+    let start = width .before .before .before in
+    let found = width .width .ensures in
+    let row : 64 ≡ length (start .args .t3) = search needs in
     let front = front-counts found in
     rw (found .words) at (at-most {n = 64} (omega (arith, found .within)) (c .before .before .put-text .ensures))
 

@@ -20,18 +20,21 @@ abbrev μ-loop : tie.MeasureT-loop
 loop-holds : tie.Need-loop-holds Inv-loop μ-loop
 loop-holds c = (search needs, search needs, from-one _)
 
+abbrev turn : tie.After-entry-wrong Inv-loop μ-loop → tie.At-loop Inv-loop μ-loop
+turn c = c .before .before .before
+
 seen : (c : tie.After-entry-wrong Inv-loop μ-loop)
-    → let l = c .before .before .before in blendWrong (now (l .before .before .args .d)) (l .loop .k) ≡ c .entry-wrong .result
-seen c = entry-at _ _ (c .before .before .before .loop .inv .0) (c .before .dword .ensures) (c .entry-wrong .ensures)
+    → let l = turn c in blendWrong (now (l .before .before .args .d)) (l .loop .k) ≡ c .entry-wrong .result
+seen c = entry-at _ _ (turn c .loop .inv .0) (c .before .dword .ensures) (c .entry-wrong .ensures)
 
 returns : tie.Need-returns Inv-loop μ-loop
 returns c =
-    let l = c .before .before .before .before in
+    let l = turn (c .before) in
     sym (l .loop .inv .2 ∙ stops-here _ 17 _ (search needs) (seen (c .before) ∙ c .if1 .taken))
 
 loop-again : tie.Need-loop-again Inv-loop μ-loop
 loop-again c =
-    let l = c .before .before .before .before in
+    let l = turn (c .before) in
     (search needs, search needs, l .loop .inv .2 ∙ entry-passed _ _ (l .loop .inv .0) (search needs) (seen (c .before) ∙ c .if1 .left))
 
 returns-2 : tie.Need-returns-2 Inv-loop μ-loop
