@@ -53,7 +53,15 @@ static inline verdict broken(const struct windows *w, uint32_t reason, const uin
     return fault(reason, (uint64_t)(dword - w->batch));
 }
 
-/* ---- Ranges ---- */
+/* ---- Addresses and ranges ---- */
+
+/*
+ * An address is the lower 48 bits of its two dwords. If it is used, the bits above repeat bit 47, or it is number 12 at the high dword, which
+ * number 10 does not look at then. If it is not, they are clear, or it is number 10.
+ */
+static inline uint64_t address_of(const uint32_t *low) { return ((uint64_t)low[1] << 32 | low[0]) & (TOP - 1); }
+static inline int canonical(uint32_t high) { return high <= 0x7FFF || high >= 0xFFFF8000; }
+static inline int clear_above(uint32_t high) { return high <= 0xFFFF; }
 
 /* All of size > 0 bytes from `address` lie in the window. Below the window the difference wraps, far past any length. */
 static inline int inside(uint64_t at, uint64_t bytes, uint64_t address, uint64_t size)
@@ -81,8 +89,6 @@ static inline int in_any(const struct windows *w, uint64_t address, uint64_t siz
 {
     return in_batch(w, address, size) || in_state(w, address, size) || in_scratch(w, address, size);
 }
-
-static inline uint64_t address_of(const uint32_t *low) { return (uint64_t)low[1] << 32 | low[0]; }
 
 /* ---- What is known of a command's head and of its bits ---- */
 
@@ -113,23 +119,27 @@ static inline uint32_t row_of(uint32_t header)
     return NO_ROW;
 }
 
-/* A command of one length: its header with its field, the header's free bits, and the bits allowed in dwords 1 onward. */
+/*
+ * A command of one length: its header with its field, the header's free bits, and the bits allowed in dwords 1 onward. The high dword of an
+ * address that may be used is left to its row.
+ */
 struct shape {
     uint32_t row, header, open, bits[16];
 };
 
-static const struct shape start_shape = {BATCH_START, 0x18800001, 0x00400100, {0, 0xFFFFFFFC, 0xFFFF}};
-static const struct shape store_4_shape = {STORE_IMM, 0x10000002, 0, {0, 0xFFFFFFFC, 0xFFFF, 0xFFFFFFFF}};
-static const struct shape store_8_shape = {STORE_IMM, 0x10200003, 0, {0, 0xFFFFFFFC, 0xFFFF, 0xFFFFFFFF, 0xFFFFFFFF}};
-static const struct shape store_reg_shape = {STORE_REG, 0x12000002, 0, {0, 0x007FFFFC, 0xFFFFFFFC, 0xFFFF}};
-static const struct shape load_reg_shape = {LOAD_REG, 0x14800002, 0, {0, 0x007FFFFC, 0xFFFFFFFC, 0xFFFF}};
+#define HIGH 0xFFFFFFFF
+static const struct shape start_shape = {BATCH_START, 0x18800001, 0x00400100, {0, 0xFFFFFFFC, HIGH}};
+static const struct shape store_4_shape = {STORE_IMM, 0x10000002, 0, {0, 0xFFFFFFFC, HIGH, 0xFFFFFFFF}};
+static const struct shape store_8_shape = {STORE_IMM, 0x10200003, 0, {0, 0xFFFFFFFC, HIGH, 0xFFFFFFFF, 0xFFFFFFFF}};
+static const struct shape store_reg_shape = {STORE_REG, 0x12000002, 0, {0, 0x007FFFFC, 0xFFFFFFFC, HIGH}};
+static const struct shape load_reg_shape = {LOAD_REG, 0x14800002, 0, {0, 0x007FFFFC, 0xFFFFFFFC, HIGH}};
 static const struct shape pipe_control_shape = {
-    PIPE_CONTROL, 0x7A000004, 0, {0, 0x0010FCBF, 0xFFFFFFFC, 0xFFFF, 0xFFFFFFFF, 0xFFFFFFFF}};
+    PIPE_CONTROL, 0x7A000004, 0, {0, 0x0010FCBF, 0xFFFFFFFC, HIGH, 0xFFFFFFFF, 0xFFFFFFFF}};
 static const struct shape base_address_shape = {
     BASE_ADDRESS, 0x6101000E, 0,
-    {0, 0xFFFFF7F1, 0xFFFF, 0x007F0000, 0xFFFFF7F1, 0xFFFF, 0xFFFFF7F1, 0xFFFF, 0xFFFFF7F1, 0xFFFF, 0xFFFFF7F1, 0xFFFF,
+    {0, 0xFFFFF7F1, HIGH, 0x007F0000, 0xFFFFF7F1, HIGH, 0xFFFFF7F1, HIGH, 0xFFFFF7F1, HIGH, 0xFFFFF7F1, HIGH,
      0xFFFFF001, 0xFFFFF001, 0xFFFFF001, 0xFFFFF001}};
-static const struct shape index_buffer_shape = {INDEX_BUFFER, 0x780A0003, 0, {0, 0x37F, 0xFFFFFFFF, 0xFFFF, 0xFFFFFFFF}};
+static const struct shape index_buffer_shape = {INDEX_BUFFER, 0x780A0003, 0, {0, 0x37F, 0xFFFFFFFF, HIGH, 0xFFFFFFFF}};
 static const struct shape topology_shape = {TOPOLOGY, 0x784B0000, 0, {0, 0x3F}};
 static const struct shape viewport_shape = {VIEWPORT, 0x78230000, 0, {0, 0xFFFFFFE0}};
 static const struct shape colour_calc_shape = {COLOUR_CALC, 0x780E0000, 0, {0, 0xFFFFFFC1}};
@@ -270,6 +280,7 @@ static APART verdict batch_start(const struct windows *w, uint32_t level, const 
     if (!shaped(s, w, cmd)) return why_not(s, w, cmd);
     if (level != 0) return broken(w, NESTED, cmd);
     if ((cmd[0] & 0x100) == 0) return broken(w, VALUE, cmd);
+    if (!canonical(cmd[2])) return broken(w, VALUE, cmd + 2);
     if (!in_batch(w, address_of(cmd + 1), 4)) return broken(w, RANGE, cmd + 1);
     return good_shape(s);
 }
@@ -289,6 +300,7 @@ static inline verdict store_bytes(const struct shape *s, uint32_t bytes, const s
 {
     if (!shaped(s, w, cmd)) return why_not(s, w, cmd);
     if (cmd[1] % bytes != 0) return broken(w, VALUE, cmd + 1); /* for four, the mask has seen to it */
+    if (!canonical(cmd[2])) return broken(w, VALUE, cmd + 2);
     if (!in_scratch(w, address_of(cmd + 1), bytes)) return broken(w, RANGE, cmd + 1);
     return good_shape(s);
 }
@@ -304,6 +316,7 @@ static APART verdict store_reg(const struct windows *w, const uint32_t *cmd)
     const struct shape *s = &store_reg_shape;
     if (!shaped(s, w, cmd)) return why_not(s, w, cmd);
     if (!register_known(cmd[1])) return broken(w, VALUE, cmd + 1);
+    if (!canonical(cmd[3])) return broken(w, VALUE, cmd + 3);
     if (!in_scratch(w, address_of(cmd + 2), 4)) return broken(w, RANGE, cmd + 2);
     return good_shape(s);
 }
@@ -313,6 +326,7 @@ static APART verdict load_reg(const struct windows *w, const uint32_t *cmd)
     const struct shape *s = &load_reg_shape;
     if (!shaped(s, w, cmd)) return why_not(s, w, cmd);
     if (!register_known(cmd[1])) return broken(w, VALUE, cmd + 1);
+    if (!canonical(cmd[3])) return broken(w, VALUE, cmd + 3);
     if (!in_any(w, address_of(cmd + 2), 4)) return broken(w, RANGE, cmd + 2);
     return good_shape(s);
 }
@@ -322,26 +336,35 @@ static APART verdict pipe_control(const struct windows *w, const uint32_t *cmd)
     const struct shape *s = &pipe_control_shape;
     if (!shaped(s, w, cmd)) return why_not(s, w, cmd);
     if ((cmd[1] >> 14 & 3) == 0) { /* no post-sync: the dwords that it would use are zero */
+        if (!clear_above(cmd[3])) return broken(w, BITS, cmd + 3);
         for (uint32_t i = 2; i < 6; i++)
             if (cmd[i] != 0) return broken(w, VALUE, cmd + i);
         return good_shape(s);
     }
     if (cmd[2] % 8 != 0) return broken(w, VALUE, cmd + 2);
+    if (!canonical(cmd[3])) return broken(w, VALUE, cmd + 3);
     if (!in_scratch(w, address_of(cmd + 2), 8)) return broken(w, RANGE, cmd + 2);
     return good_shape(s);
 }
 
+/* Each of the five bases is used if bit 0 of its low dword is set. Behind their high dwords stand others that may have faults, too. */
 static APART verdict base_address(const struct windows *w, const uint32_t *cmd)
 {
+    static const uint8_t bases[] = {1, 4, 6, 8, 10};
     const struct shape *s = &base_address_shape;
-    return shaped(s, w, cmd) ? good_shape(s) : why_not(s, w, cmd);
+    verdict v = shaped(s, w, cmd) ? good_shape(s) : why_not(s, w, cmd);
+    if (v < fault(BITS, 0)) return v; /* not all of it need be there */
+    for (uint32_t i = 0; i < 5; i++) {
+        const uint32_t *low = cmd + bases[i];
+        int used = low[0] & 1;
+        if (used && !canonical(low[1])) v = least(v, broken(w, VALUE, low + 1));
+        if (!used && !clear_above(low[1])) v = least(v, broken(w, BITS, low + 1));
+    }
+    return v;
 }
 
-/* With bit 13 clear, bit 14 set and any bytes at all, these lie in one window. */
-static inline int range_good(const struct windows *w, const uint32_t *group)
-{
-    return (group[0] & 0x6000) != 0x4000 || group[3] == 0 || in_any(w, address_of(group + 1), group[3]);
-}
+/* With bit 13 clear, bit 14 set and any bytes at all. */
+static inline int buffer_used(const uint32_t *group) { return (group[0] & 0x6000) == 0x4000 && group[3] != 0; }
 
 static APART verdict vertex_buffers(const struct windows *w, const uint32_t *cmd)
 {
@@ -349,9 +372,13 @@ static APART verdict vertex_buffers(const struct windows *w, const uint32_t *cmd
     if (is_fault(v)) return v;
     for (const uint32_t *group = cmd + 1, *end = cmd + length_of(cmd[0]); group < end; group += 4) {
         if (group[0] & ~0xFC7F6FFFu) return broken(w, BITS, group);
-        if (group[2] & ~0x0000FFFFu) return broken(w, BITS, group + 2);
         if (!buffer_good(group[0])) v = least(v, broken(w, VALUE, group));
-        if (!range_good(w, group)) v = least(v, broken(w, RANGE, group + 1));
+        if (!buffer_used(group)) {
+            if (!clear_above(group[2])) return broken(w, BITS, group + 2);
+            continue;
+        }
+        if (!canonical(group[2])) v = least(v, broken(w, VALUE, group + 2));
+        if (!in_any(w, address_of(group + 1), group[3])) v = least(v, broken(w, RANGE, group + 1));
     }
     return v;
 }
@@ -373,8 +400,11 @@ static APART verdict index_buffer(const struct windows *w, const uint32_t *cmd)
 {
     const struct shape *s = &index_buffer_shape;
     if (!shaped(s, w, cmd)) return why_not(s, w, cmd);
+    int used = cmd[4] != 0;
+    if (!used && !clear_above(cmd[3])) return broken(w, BITS, cmd + 3);
     if ((cmd[1] >> 8 & 3) == 3) return broken(w, VALUE, cmd + 1);
-    if (cmd[4] != 0 && !in_any(w, address_of(cmd + 2), cmd[4])) return broken(w, RANGE, cmd + 2);
+    if (used && !canonical(cmd[3])) return broken(w, VALUE, cmd + 3);
+    if (used && !in_any(w, address_of(cmd + 2), cmd[4])) return broken(w, RANGE, cmd + 2);
     return good_shape(s);
 }
 
@@ -550,7 +580,7 @@ static struct lungevati_answer walk(const struct windows *w, uint32_t *records, 
             v = batch_start(w, level, cmd);
             if (!recorded(v, level | (uint32_t)at, &out, full)) return refused(v, at, records, out);
             if (header & 0x00400000) kept = at + 3, level = 1 << 12;
-            at = (address_of(cmd + 1) - w->batch_at) / 4;
+            at = (cmd[1] - (uint32_t)w->batch_at) / 4; /* it lies in the batch, so that the low dwords say where */
             continue;
         case BASE_ADDRESS:
             v = base_address(w, cmd);

@@ -37,6 +37,7 @@ struct windows {
     const uint32_t *words[2]; /* of the batch and of the state window */
     uint64_t batch_count;
     struct window batch, state, scratch;
+    const struct windows *plain; /* themselves, unless they are as the quick look takes them: see nearer */
 };
 
 /* Where a walk stands. */
@@ -58,7 +59,9 @@ QUICK void store(uint32_t *dwords, four words) { *(lanes *)dwords = (lanes)words
 QUICK four same(uint32_t word) { return (four){word, word, word, word}; }
 QUICK int all_ones(sixteen bytes) { return __builtin_ia32_pmovmskb128(bytes) == 0xFFFF; }
 QUICK int all_zero(four words) { return all_ones((sixteen)(words == same(0))); }
-QUICK uint64_t address_of(const uint32_t *low) { return *(const pair *)low; }
+QUICK uint64_t written(const uint32_t *low) { return *(const pair *)low; } /* an address as its two dwords are, all 64 bits */
+QUICK uint64_t address_of(const uint32_t *low) { return written(low) & (TOP - 1); }
+QUICK int canonical(uint32_t high) { return high + 0x8000 <= 0xFFFF; } /* at most 7FFFh, or at least FFFF8000h */
 
 /* ---- Codes ---- */
 
@@ -163,10 +166,25 @@ static int components_wrong(uint32_t dword)
     return 0;
 }
 
+/* The dword is the high one of an address that is used: number 10 passes over it, and 12 asks whether it is canonical. */
+static int used_high(uint32_t row, const uint32_t *cmd, uint32_t dword, uint32_t spot)
+{
+    switch (row) {
+    case BATCH_START: case STORE_IMM: return dword == 2;
+    case STORE_REG: case LOAD_REG: return dword == 3;
+    case PIPE_CONTROL: return dword == 3 && cmd[1] & 0xC000;
+    case BASE_ADDRESS: return (dword == 2 || dword == 5 || dword == 7 || dword == 9 || dword == 11) && cmd[dword - 1] & 1;
+    case VERTEX_BUFFERS: return spot == 3 && (cmd[dword - 2] & 0x6000) == 0x4000 && cmd[dword + 1];
+    case INDEX_BUFFER: return dword == 3 && cmd[4];
+    }
+    return 0;
+}
+
 /* Number 12, of a command's dword, which is the dword `spot` of its group. */
 static int value_wrong(uint32_t row, const uint32_t *cmd, uint32_t dword, uint32_t spot)
 {
     uint32_t word = cmd[dword];
+    if (used_high(row, cmd, dword, spot)) return !canonical(word);
     switch (row) {
     case BATCH_START: return dword == 0 && !(word & 0x100);
     case LOAD_IMM: case STORE_REG: case LOAD_REG: return spot == 1 && !register_known(word);
@@ -207,7 +225,7 @@ static int range_wrong(const struct windows *w, uint32_t row, const uint32_t *cm
     case STORE_REG: return dword == 2 && !inside(&w->scratch, address_of(low), 4);
     case LOAD_REG: return dword == 2 && !in_any(w, address_of(low), 4);
     case PIPE_CONTROL: return dword == 2 && cmd[1] & 0xC000 && !inside(&w->scratch, address_of(low), 8);
-    case VERTEX_BUFFERS: return spot == 2 && (low[-1] & 0x6000) == 0x4000 && low[2] && !in_any(w, address_of(low), low[2]);
+    case VERTEX_BUFFERS: return spot == 2 && used_high(row, cmd, dword + 1, 3) && !in_any(w, address_of(low), low[2]);
     case INDEX_BUFFER: return dword == 2 && low[2] && !in_any(w, address_of(low), low[2]);
     }
     return 0;
@@ -252,23 +270,27 @@ static verdict structure(const struct windows *w, const struct place *p, uint32_
     return good;
 }
 
-/* Numbers 6 to 17, in their order. */
-APART verdict careful(const struct windows *w, const struct place *p)
+/* A dword's number in its group, from 1 on; the header has 0. */
+static uint32_t spot_of(uint32_t row, uint32_t dword) { return dword ? (dword - 1) % rows[row].group + 1 : 0; }
+
+/* Numbers 6 to 17, in their order, by the windows as they are. */
+APART verdict careful(const struct windows *quick, const struct place *p)
 {
+    const struct windows *w = quick->plain;
     if (p->at == w->batch_count) return fault(RUN_OUT, p->at);
     const uint32_t *cmd = w->words[0] + p->at;
     uint32_t row = row_of(cmd[0]);
     if (row == ROWS) return fault(UNKNOWN, p->at);
-    uint32_t group = rows[row].group, length = rows[row].has_field ? (cmd[0] & 0xFF) + 2 : 1;
+    uint32_t length = rows[row].has_field ? (cmd[0] & 0xFF) + 2 : 1;
     if (field_wrong(row, cmd[0])) return fault(LENGTH, p->at);
     if (length > w->batch_count - p->at) return fault(PAST_END, p->at);
     for (uint32_t i = 0; i < length; i++)
-        if (cmd[i] & ~mask_of(row, i)) return fault(BITS, p->at + i);
+        if (cmd[i] & ~mask_of(row, i) && !used_high(row, cmd, i, spot_of(row, i))) return fault(BITS, p->at + i);
     if (row == BATCH_START && p->level) return fault(NESTED, p->at);
     for (uint32_t i = 0; i < length; i++)
-        if (value_wrong(row, cmd, i, i ? (i - 1) % group + 1 : 0)) return fault(VALUE, p->at + i);
+        if (value_wrong(row, cmd, i, spot_of(row, i))) return fault(VALUE, p->at + i);
     for (uint32_t i = 1; i < length; i++)
-        if (range_wrong(w, row, cmd, i, (i - 1) % group + 1)) return fault(RANGE, p->at + i);
+        if (range_wrong(w, row, cmd, i, spot_of(row, i))) return fault(RANGE, p->at + i);
     verdict good = GOOD | row << 24 | length << 16;
     int reads = row == VIEWPORT || ((row == COLOUR_CALC || row == BLEND) && cmd[1] & 1);
     return reads ? structure(w, p, row, cmd, good) : good;
@@ -278,41 +300,54 @@ APART verdict careful(const struct windows *w, const struct place *p)
 
 /*
  * A word of 4 or 8 bytes in a window, aligned: turned by so many bits, the offset of one that is not aligned is past any window,
- * as it is for one below it. A window ends at or below 2^48, so that the high dword is in its mask too.
+ * as it is for one below it. The window has its address as it is written, and lies in one half of all addresses (see nearer), so that
+ * the offset of one whose high dword is not canonical is past it too.
  */
 QUICK int holds_4(const struct window *w, uint64_t address) { return turned_64(address - w->at, 2) < w->fours; }
 QUICK int holds_8(const struct window *w, uint64_t address) { return turned_64(address - w->at, 3) < w->eights; }
 
 QUICK int quick_load_reg(const struct windows *w, const uint32_t *cmd)
 {
-    uint64_t address = address_of(cmd + 2);
+    uint64_t address = written(cmd + 2);
     return register_known(cmd[1]) && (holds_4(&w->scratch, address) || holds_4(&w->state, address) || holds_4(&w->batch, address));
 }
 
 QUICK int quick_pipe_control(const struct windows *w, const uint32_t *cmd)
 {
     if (cmd[1] & ~0x0010FCBFu) return 0;
-    if (cmd[1] & 0xC000) return holds_8(&w->scratch, address_of(cmd + 2));
-    return (address_of(cmd + 2) | address_of(cmd + 4)) == 0;
+    if (cmd[1] & 0xC000) return holds_8(&w->scratch, written(cmd + 2));
+    return (written(cmd + 2) | written(cmd + 4)) == 0;
 }
 
-QUICK int quick_base_address(const uint32_t *cmd)
+/* The masks, of the bases' high dwords that which is given: if these are at most 7FFFh, it does not matter whether a base is used. */
+QUICK int base_address_but(const uint32_t *cmd, uint32_t high)
 {
-    const four a = {0, ~0xFFFFF7F1u, 0xFFFF0000, ~0x007F0000u}, b = {~0xFFFFF7F1u, 0xFFFF0000, ~0xFFFFF7F1u, 0xFFFF0000};
+    const four a = {0, ~0xFFFFF7F1u, high, ~0x007F0000u}, b = {~0xFFFFF7F1u, high, ~0xFFFFF7F1u, high};
     return all_zero((load(cmd) & a) | ((load(cmd + 4) | load(cmd + 8)) & b) | (load(cmd + 12) & same(~0xFFFFF001u)));
 }
 
-/* A range with its size, of which it need not be known whether it is used: what lies in scratch is good either way. */
+/* If they are more, it does: what a used one may have has 16 bits once 8000h is added. */
+APART int base_address_above(const uint32_t *cmd)
+{
+    static const uint8_t bases[] = {1, 4, 6, 8, 10};
+    uint32_t wrong = 0;
+    for (uint32_t i = 0; i < 5; i++) wrong |= (cmd[bases[i] + 1] + (cmd[bases[i]] << 15 & 0x8000)) >> 16;
+    return base_address_but(cmd, 0) && !wrong;
+}
+
+QUICK int quick_base_address(const uint32_t *cmd) { return LIKELY(base_address_but(cmd, 0xFFFF8000)) || base_address_above(cmd); }
+
+/* A range with its size, of which it need not be known whether it is used: below 2^47 what lies in scratch is good either way. */
 QUICK int quick_range(const struct windows *w, const uint32_t *low)
 {
-    uint64_t offset = address_of(low) - w->scratch.at;
+    uint64_t offset = written(low) - w->scratch.at;
     return offset < w->scratch.bytes && low[2] <= w->scratch.bytes - offset;
 }
 
 /* The same for the rest; a range that is not used has to have its high dword in the mask. */
 APART int range_elsewhere(const struct windows *w, const uint32_t *low, int used)
 {
-    return used && low[2] ? in_any(w, address_of(low), low[2]) : low[1] <= 0xFFFF;
+    return used && low[2] ? canonical(low[1]) && in_any(w->plain, address_of(low), low[2]) : low[1] <= 0xFFFF;
 }
 
 /*
@@ -335,7 +370,7 @@ APART int quick_vertex_buffers(const struct windows *w, const uint32_t *cmd, con
 {
     const uint64_t scratch_at = w->scratch.at, scratch_bytes = w->scratch.bytes;
     for (const uint32_t *group = cmd + 1;;) {
-        uint64_t offset = address_of(group + 1) - scratch_at;
+        uint64_t offset = written(group + 1) - scratch_at;
         if (buffer_bits(group[0]) != 0x4000) return vertex_buffers_elsewhere(w, group, end);
         if (offset >= scratch_bytes) return vertex_buffers_elsewhere(w, group, end);
         if (group[3] > scratch_bytes - offset) return vertex_buffers_elsewhere(w, group, end);
@@ -424,7 +459,7 @@ QUICK float as_float(uint32_t bits)
 /* In the state window; without a base, nothing is. The comparison is false where one is NaN. */
 QUICK int quick_viewport(const struct windows *w, uint64_t base, const uint32_t *cmd)
 {
-    uint64_t offset = base + cmd[1] - w->state.at;
+    uint64_t offset = base + cmd[1] - w->plain->state.at;
     if (cmd[1] & 31 || offset >= (w->state.bytes & ~(uint64_t)7)) return 0;
     const uint32_t *depths = w->words[1] + offset / 4;
     return as_float(depths[0]) <= as_float(depths[1]);
@@ -432,7 +467,7 @@ QUICK int quick_viewport(const struct windows *w, uint64_t base, const uint32_t 
 
 QUICK int quick_colour_calc(const struct windows *w, uint64_t base, const uint32_t *cmd)
 {
-    uint64_t offset = base + (cmd[1] & ~1u) - w->state.at;
+    uint64_t offset = base + (cmd[1] & ~1u) - w->plain->state.at;
     if (cmd[1] & 62) return 0;
     if (!(cmd[1] & 1)) return 1;
     if (offset >= w->state.bytes || w->state.bytes - offset < 24) return 0;
@@ -444,7 +479,7 @@ QUICK int quick_colour_calc(const struct windows *w, uint64_t base, const uint32
 /* The entries are eight pairs of dwords with the same two masks, so that four dwords are two of them. */
 QUICK int quick_blend(const struct windows *w, uint64_t base, const uint32_t *cmd)
 {
-    uint64_t offset = base + (cmd[1] & ~1u) - w->state.at;
+    uint64_t offset = base + (cmd[1] & ~1u) - w->plain->state.at;
     if (cmd[1] & 62) return 0;
     if (!(cmd[1] & 1)) return 1;
     if (offset >= w->state.bytes || w->state.bytes - offset < 68) return 0;
@@ -550,23 +585,25 @@ batch_end:
 batch_start:
     NEED(DWORD(0) == 0x18800101);
     NEED(at + 3 <= end && end == w->batch_count);
-    n = turned_64(address_of(COMMAND + 1) - w->batch.at, 2);
-    NEED(n < end);
+    n = turned_64(written(COMMAND + 1) - w->batch.at, 2);
+    NEED(n < w->batch.fours);
+jump:
     *out++ = (uint32_t)at + (BATCH_START << 24 | 3 << 16);
     at = n;
     NEXT;
 second_level:
     NEED(DWORD(0) == 0x18C00101);
     NEED(at + 3 <= end && end == w->batch_count);
-    n = turned_64(address_of(COMMAND + 1) - w->batch.at, 2);
-    NEED(n < end);
+    n = turned_64(written(COMMAND + 1) - w->batch.at, 2);
+    NEED(n < w->batch.fours);
+call:
     *out++ = (uint32_t)at + (BATCH_START << 24 | 3 << 16);
     kept = at + 3, at = n + LEVEL_1, from -= 4 * LEVEL_1, end += LEVEL_1;
     NEXT;
 load_imm: GROUPS(0x11000000, LOAD_IMM, 2, 127, quick_load_imm(COMMAND, COMMAND + field + 2));
-store_4: ROW(0x10000002, STORE_IMM, 4, holds_4(&w->scratch, address_of(COMMAND + 1)));
-store_8: ROW(0x10200003, STORE_IMM, 5, holds_8(&w->scratch, address_of(COMMAND + 1)));
-store_reg: ROW(0x12000002, STORE_REG, 4, register_known(DWORD(1)) && holds_4(&w->scratch, address_of(COMMAND + 2)));
+store_4: ROW(0x10000002, STORE_IMM, 4, holds_4(&w->scratch, written(COMMAND + 1)));
+store_8: ROW(0x10200003, STORE_IMM, 5, holds_8(&w->scratch, written(COMMAND + 1)));
+store_reg: ROW(0x12000002, STORE_REG, 4, register_known(DWORD(1)) && holds_4(&w->scratch, written(COMMAND + 2)));
 load_reg: ROW(0x14800002, LOAD_REG, 4, quick_load_reg(w, COMMAND));
 pipe_control: ROW(0x7A000004, PIPE_CONTROL, 6, quick_pipe_control(w, COMMAND));
 pipeline_select: ROW(0x69040000, PIPELINE_SELECT, 1, 1);
@@ -595,7 +632,15 @@ look:;
     struct place p = {at - (end - w->batch_count), base, (uint32_t)(end - w->batch_count)};
     verdict v = careful(w, &p);
     if (v < GOOD || out == full) return refused(v, p.at, (uint64_t)(out - records));
-    /* What is good yet goes on by its length; a base that it set, as the batch's last command, nobody would ask for. */
+    /*
+     * What is good yet goes on by its length, but for a start in a batch that lies about 2^47, to what lies above. A base that it set, as the
+     * batch's last command, nobody would ask for.
+     */
+    if (RARELY((v ^ GOOD) >> 24 == BATCH_START)) {
+        n = (address_of(COMMAND + 1) - w->plain->batch.at) / 4;
+        if (DWORD(0) & 0x00400000) goto call;
+        goto jump;
+    }
     *out++ = (v ^ GOOD) + (uint32_t)at;
     at += v >> 16 & 0xFF;
     if (RARELY(at == end)) goto look;
@@ -615,11 +660,31 @@ APART uint32_t unsound(const struct windows *w)
 /* One window begins behind the other: the difference is then too large one way, and wraps the other. */
 QUICK int apart(const struct window *a, const struct window *b) { return b->at - a->at >= a->bytes && a->at - b->at >= b->bytes; }
 
-/* Aligned windows below 2^47 end below 2^48; the rest are looked at carefully. */
+/* Aligned windows below 2^46 end below 2^47; the rest are looked at carefully. */
 QUICK int clearly_sound(const struct windows *w)
 {
-    if (RARELY((w->batch.at | w->state.at | w->scratch.at) & 0xFFFF800000000FFF)) return 0;
+    if (RARELY((w->batch.at | w->state.at | w->scratch.at) & 0xFFFFC00000000FFF)) return 0;
     return apart(&w->batch, &w->state) && apart(&w->batch, &w->scratch) && apart(&w->state, &w->scratch);
+}
+
+/*
+ * A window as the quick look takes it: from 2^47 on its address has the bits above set, as a used address in it is written; of one that
+ * goes on from below 2^47 only what lies below counts. So no address is in it whose high dword is not canonical.
+ */
+static struct window nearer(struct window w)
+{
+    uint64_t half = TOP / 2;
+    if (w.at >= half) w.at |= ~(TOP - 1);
+    else if (w.bytes > half - w.at) w = (struct window){w.at, half - w.at, (half - w.at) / 4, (half - w.at) / 8};
+    return w;
+}
+
+/* Ranges in scratch from 2^47 on are not for the quick look: one of no bytes is not used, and must not have these bits set. */
+APART void bring_nearer(struct windows *w, struct windows *plain)
+{
+    *plain = *w, plain->plain = w->plain = plain;
+    w->batch = nearer(w->batch), w->state = nearer(w->state), w->scratch = nearer(w->scratch);
+    if (plain->scratch.at >= TOP / 2) w->scratch.bytes = 0;
 }
 
 struct lungevati_answer fast_check(const uint32_t *batch, size_t batch_len, uint64_t batch_at,
@@ -629,9 +694,13 @@ struct lungevati_answer fast_check(const uint32_t *batch, size_t batch_len, uint
 {
     if (RARELY(batch_len - 1 >= LIMIT)) return answer(fault(COUNTS, 0), 0);
     if (RARELY(state_len > LIMIT)) return answer(fault(COUNTS, 0), 0);
-    struct windows w = {{batch, state}, batch_len,
+    struct windows plain, w = {{batch, state}, batch_len,
                         {batch_at, 4 * batch_len, batch_len, batch_len / 2}, {state_at, 4 * state_len, state_len, state_len / 2},
-                        {scratch_at, scratch_len, scratch_len / 4, scratch_len / 8}};
-    uint32_t reason = LIKELY(clearly_sound(&w)) ? 0 : unsound(&w);
-    return reason ? answer(fault(reason, 0), 0) : walk(&w, records, records_len);
+                        {scratch_at, scratch_len, scratch_len / 4, scratch_len / 8}, &w};
+    if (RARELY(!clearly_sound(&w))) {
+        uint32_t reason = unsound(&w);
+        if (reason) return answer(fault(reason, 0), 0);
+        bring_nearer(&w, &plain);
+    }
+    return walk(&w, records, records_len);
 }

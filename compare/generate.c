@@ -28,8 +28,8 @@ uint64_t dice_roll(struct dice *d) /* xorshift64* */
 static const struct {
     int aim;
     uint32_t often;
-} aims[] = {{ACCEPTED, 20}, {1, 4}, {2, 4}, {3, 5}, {4, 5}, {6, 5}, {7, 4}, {8, 6}, {9, 6}, {10, 9}, {11, 5}, {12, 12}, {13, 9},
-            {14, 3}, {15, 5}, {16, 4}, {17, 5}, {18, 4}, {ENDLESS_RUN, 1}, {EXACT_RUN, 1}, {FLIPPED, 10}, {NOISE, 1}};
+} aims[] = {{ACCEPTED, 18}, {1, 4}, {2, 4}, {3, 5}, {4, 5}, {6, 5}, {7, 4}, {8, 6}, {9, 6}, {10, 9}, {11, 5}, {12, 16}, {13, 9},
+            {14, 3}, {15, 5}, {16, 4}, {17, 5}, {18, 4}, {ENDLESS_RUN, 1}, {EXACT_RUN, 1}, {FLIPPED, 8}, {NOISE, 1}};
 
 static int aim_of(uint64_t number)
 {
@@ -78,7 +78,7 @@ static size_t room(void)
     struct lungevati_answer a = other_check(c->batch, c->batch_len, c->batch_at, c->state, c->state_len, c->state_at,
                                             c->scratch_at, c->scratch_len, records, RECORDS_MOST);
     if (m.aim == 18) return below(one_in(2) ? a.count : 3);
-    if (m.aim == EXACT_RUN && one_in(3)) return a.count - below(3);
+    if (m.aim == EXACT_RUN && a.count > 2 && one_in(3)) return a.count - below(3);
     if (a.count == BUDGET) return one_in(2) ? BUDGET + below(2) : RECORDS_MOST - below(2);
     return one_in(3) ? a.count : one_in(2) ? a.count + 1 : a.count + below(40);
 }

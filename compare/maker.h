@@ -14,8 +14,9 @@ enum { /* the table's rows */
 
 enum { PAGE = 4096, LIMIT = 4096, BUDGET = 65536, BLOCKS = 12, COMMANDS = 4096 };
 
-/* 2^48, the end of all windows. */
+/* 2^48, the end of all windows, and 2^47, from which on an address that is used has its upper bits set. */
 #define TOP ((uint64_t)1 << 48)
+#define HALF ((uint64_t)1 << 47)
 
 /* What a capture is aimed at, beside the numbers 1 to 18. */
 enum { ACCEPTED = 0, ENDLESS_RUN = 19, EXACT_RUN, FLIPPED, NOISE };
@@ -74,7 +75,8 @@ uint32_t structure_dwords(uint32_t row);
 int fieldless(uint32_t row); /* the header's low bits hold no length field */
 uint32_t good_register(void);
 uint32_t some_length(uint32_t row, uint32_t most);
-void put_address(uint32_t *low, uint64_t at);
+void put_address(uint32_t *low, uint64_t at); /* as one that is used is written: the bits above bit 47 repeat it */
+void put_unused(uint32_t *low, uint64_t at);  /* as one that is not: they are clear */
 void emit_start(int call, uint32_t block, uint32_t to);
 
 /* Where a blend entry's first dword has its codes. */

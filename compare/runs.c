@@ -85,14 +85,24 @@ static void at_both_ends(void)
     uint32_t top = below(2);
     set_address(top, TOP - rounded(window(top).bytes) - PAGE * (uint64_t)below(3));
     set_address(1 - top, PAGE * (uint64_t)below(4));
-    set_address(2, TOP / 2);
+    set_address(2, HALF);
+}
+
+/* The three in a row about 2^47, which is where one of them begins or ends, or some page of it. */
+static void about_half(int gaps)
+{
+    in_a_row(HALF, gaps);
+    struct window w = window(below(3));
+    uint64_t pages = rounded(w.bytes) / PAGE, back = w.at - HALF;
+    back += PAGE * (one_in(3) ? 0 : one_in(2) ? pages : below((uint32_t)pages));
+    for (uint32_t i = 0; i < 3; i++) set_address(i, window(i).at - back);
 }
 
 static void place_windows(void)
 {
     int gaps = one_in(2);
     uint64_t back = PAGE * (uint64_t)(1 + below(5));
-    switch (below(7)) {
+    switch (below(10)) {
     case 0:
         m.c->batch_at = 0x100000, m.c->state_at = 0x200000, m.c->scratch_at = 0x300000;
         break;
@@ -101,6 +111,9 @@ static void place_windows(void)
     case 3: in_a_row(((uint64_t)1 + below(64)) * ((uint64_t)1 << 32) - back, gaps); break;
     case 4: in_a_row(0, gaps); break;
     case 5: at_both_ends(); break;
+    case 6: in_a_row(HALF + PAGE * (uint64_t)below(one_in(2) ? 4 : 1 << 20), gaps); break;
+    case 7: in_a_row(HALF + PAGE * (uint64_t)below(0x7FFFFFFF), gaps); break;
+    case 8: about_half(gaps); break;
     default: /* far apart: each in a part of its own */
         for (uint32_t i = 0; i < 3; i++)
             set_address(i, (uint64_t)i * (TOP / 4) + PAGE * (uint64_t)below(0x7FFFFFFF));
@@ -291,18 +304,25 @@ static uint32_t good_topology(void)
     return one_in(2) ? PICK(edges) : one_in(2) ? 1 + below(20) : 0x20 + below(32);
 }
 
-void put_address(uint32_t *low, uint64_t at)
+void put_unused(uint32_t *low, uint64_t at)
 {
     low[0] = (uint32_t)at;
-    low[1] = (uint32_t)(at >> 32);
+    low[1] = (uint32_t)(at >> 32) & 0xFFFF;
 }
 
-/* `size` bytes in a window, at a multiple of `step`: at its start or end as often as between. 0: it has no room. */
+void put_address(uint32_t *low, uint64_t at)
+{
+    put_unused(low, at);
+    if (at & HALF) low[1] |= 0xFFFF0000;
+}
+
+/* `size` bytes in a window, at a multiple of `step`: at its start or end as often as between, or up to 2^47 or from there on. 0: it has no room. */
 static int good_place(struct window w, uint64_t size, uint64_t step, uint64_t *at)
 {
     if (size > w.bytes) return 0;
-    uint64_t places = (w.bytes - size) / step + 1;
+    uint64_t places = (w.bytes - size) / step + 1, half = w.at < HALF ? (HALF - w.at) / step : places, before = size / step;
     uint64_t which = one_in(4) ? 0 : one_in(3) ? places - 1 : dice_roll(&m.dice) % places;
+    if (half < places && one_in(2)) which = one_in(2) && half >= before ? half - before : half;
     *at = w.at + which * step;
     return 1;
 }
@@ -321,7 +341,7 @@ static void good_range(uint32_t *low, uint32_t *size)
     struct window w = sure_window(below(3));
     uint64_t at = 0;
     *size = 0;
-    put_address(low, dice_roll(&m.dice) >> 16);
+    put_unused(low, dice_roll(&m.dice) >> 16);
     if (w.bytes == 0 || one_in(8)) return; /* no bytes: wherever it is */
     uint64_t most = one_in(4) ? w.bytes : 1 + below((uint32_t)w.bytes);
     good_place(w, most, 1, &at);
@@ -354,9 +374,19 @@ static int good_pipe_control(uint32_t *cmd)
     return good_address(cmd + 2, 2, 8);
 }
 
+/* A high dword of 16 bits, with the bits above as they have to be. */
+static uint32_t good_high(int used)
+{
+    static const uint32_t edges[] = {0, 0x7FFF, 0x8000, 0xFFFF};
+    uint32_t high = one_in(2) ? PICK(edges) : word() & 0xFFFF;
+    return used && high > 0x7FFF ? high | 0xFFFF0000 : high;
+}
+
 static int good_base_address(uint32_t *cmd)
 {
+    static const uint8_t bases[] = {1, 4, 6, 8, 10};
     cmd[6] &= ~1u;
+    for (uint32_t i = 0; i < 5; i++) cmd[bases[i] + 1] = good_high(cmd[bases[i]] & 1);
     if (m.aim == 14 || (m.fixed_base && m.has_base && !one_in(4))) return 1; /* bit 0 clear: the base stays */
     if (!m.fixed_base || !m.has_base) m.base = some_base();
     m.has_base = 1;

@@ -72,8 +72,56 @@ static int spoil_length(uint32_t *cmd, const struct command *made)
     return 1;
 }
 
+/* A high dword of an address in the command, or none. */
+static uint32_t *some_high(uint32_t *cmd, const struct command *made)
+{
+    static const uint8_t bases[] = {2, 5, 7, 9, 11};
+    switch (made->row) {
+    case BATCH_START:
+    case STORE_IMM: return cmd + 2;
+    case STORE_REG:
+    case LOAD_REG:
+    case PIPE_CONTROL:
+    case INDEX_BUFFER: return cmd + 3;
+    case BASE_ADDRESS: return cmd + PICK(bases);
+    case VERTEX_BUFFERS: return cmd + 3 + 4 * below((made->length - 1) / 4);
+    default: return 0;
+    }
+}
+
+/* A used address becomes one that is not, or the other way round, where its command can do without it. */
+static void spoil_use(uint32_t *cmd, const struct command *made, uint32_t *high)
+{
+    switch (made->row) {
+    case PIPE_CONTROL: cmd[1] ^= 0x4000; break;
+    case BASE_ADDRESS: high[-1] ^= 1; break;
+    case VERTEX_BUFFERS:
+        if (one_in(2)) high[-2] ^= one_in(2) ? 0x2000 : 0x4000;
+        else high[1] = high[1] ? 0 : 1 + below(64);
+        break;
+    case INDEX_BUFFER: high[1] = high[1] ? 0 : 1 + below(64); break;
+    }
+}
+
+/* High dwords about their edges, with the upper bits of the other half, or with another of them; most that are used are then not canonical. */
+static int spoil_high(uint32_t *cmd, const struct command *made)
+{
+    static const uint32_t edges[] = {0,          0x7FFF,     0x8000,     0xFFFF,     0x10000,    0x18000,
+                                     0xFFFF7FFF, 0xFFFF8000, 0xFFFFFFFF, 0x7FFFFFFF, 0x80000000, 0xFFFF0000};
+    uint32_t *high = some_high(cmd, made), bit = 1u << (15 + below(17)), edge = PICK(edges);
+    if (!high) return 0;
+    switch (below(4)) {
+    case 0: *high = edge; break;
+    case 1: *high ^= bit; break;
+    case 2: spoil_use(cmd, made, high); break;
+    default: *high ^= 0xFFFF0000;
+    }
+    return 1;
+}
+
 static int spoil_bits(uint32_t *cmd, const struct command *made)
 {
+    if (one_in(8)) return spoil_high(cmd, made);
     uint32_t dword = one_in(4) ? 0 : below(made->length), bit = below(32);
     uint32_t outside = dword ? ~allowed(made->row, dword) : ~table[made->row].open;
     if (dword == 0) outside &= (made->row < PIPE_CONTROL ? 0x7FFFFF : 0xFFFF) & (fieldless(made->row) ? ~0u : ~0xFFu);
@@ -149,6 +197,7 @@ static int spoil_primitive(uint32_t *cmd)
 static int spoil_value(uint32_t *cmd, const struct command *made)
 {
     static const uint32_t topologies[] = {0, 0x15, 0x17, 0x1F, 0x18};
+    if (one_in(3)) return spoil_high(cmd, made);
     switch (made->row) {
     case BATCH_START: return cmd[0] &= ~0x100u, 1;
     case LOAD_IMM: return spoil_load_imm(cmd, made->length);
@@ -171,7 +220,7 @@ static uint64_t bad_place(uint64_t size, uint64_t step, uint64_t at)
     struct window w = window(below(3));
     uint64_t anywhere = dice_roll(&m.dice) / step * step, high_bit = (uint64_t)1 << (32 + below(16));
     const uint64_t edges[] = {w.at - step, (w.at + w.bytes) / step * step, (w.at + w.bytes - size) / step * step + step,
-                              TOP - step, w.at, anywhere, at ^ high_bit, 0, at + step, at - step};
+                              TOP - step, w.at, anywhere, at ^ high_bit, 0, at + step, at - step, at ^ HALF, HALF, HALF - step};
     return PICK(edges) % TOP;
 }
 
@@ -190,7 +239,7 @@ static int spoil_bytes(uint32_t *low, uint32_t *size)
     uint64_t at = w.at + inside, bytes = left + 1 + (one_in(2) ? 0 : below(PAGE));
     switch (below(4)) {
     case 0: at = w.at - 1, bytes = 1 + below(4); break;
-    case 1: at = TOP - 1 - below(8), bytes = one_in(2) ? 0xFFFFFFFF : 1 + below(16); break;
+    case 1: at = (one_in(2) ? TOP : HALF) - 1 - below(8), bytes = one_in(2) ? 0xFFFFFFFF : 1 + below(16); break;
     case 2: bytes = 0xFFFFFFFF - below(2); break;
     }
     put_address(low, at % TOP);

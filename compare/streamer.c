@@ -113,10 +113,11 @@ static uint32_t fetch(struct stream *s, uint32_t dword)
     return 0;
 }
 
+/* An address is the lower 48 bits of its dwords, whatever stands above them. */
 static uint64_t fetch_address(struct stream *s, uint32_t dword)
 {
     uint64_t low = fetch(s, dword);
-    return low | (uint64_t)fetch(s, dword + 1) << 32;
+    return low | (uint64_t)(fetch(s, dword + 1) & 0xFFFF) << 32;
 }
 
 static uint32_t hardware(struct stream *s) { return (uint32_t)mix(s->seed + ++s->supplied); }

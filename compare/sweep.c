@@ -1,6 +1,6 @@
 /*
  * What need not be left to chance: the cases of document 01 with the answers that it gives for them, and then small captures
- * in which every bit, length field, code and edge is tried one by one. Of these the answers are only compared.
+ * in which every bit, length field, code, edge and kind of high dword is tried one by one. Of these the answers are only compared.
  */
 #include "harness.h"
 
@@ -9,6 +9,16 @@ static struct tally *tally;
 static uint64_t tried;
 
 static int try_it(void) { return same_check(&c, ++tried, tally); }
+
+/* 2^48, the end of all addresses, and 2^47: from there on a used address has the bits above its 48 set. */
+#define TOP ((uint64_t)1 << 48)
+#define HALF ((uint64_t)1 << 47)
+
+static void put_address(uint32_t *low, uint64_t at)
+{
+    low[0] = (uint32_t)at;
+    low[1] = ((uint32_t)(at >> 32) & 0xFFFF) | (at & HALF ? 0xFFFF0000 : 0);
+}
 
 /* The windows of document 01's cases. */
 static void usual_windows(void)
@@ -199,13 +209,11 @@ static int sweep_primitive(void)
 
 static int sweep_address(uint32_t sample, uint32_t dword)
 {
-    static const uint64_t edges[] = {0x100000, 0x200000, 0x300000, 0x301000, 0x200044, 0, (uint64_t)1 << 48, 0x100000000};
+    static const uint64_t edges[] = {0x100000, 0x200000, 0x300000, 0x301000, 0x200044, 0, TOP, 0x100000000};
     for (uint32_t i = 0; i < 8; i++)
         for (uint64_t off = 0; off < 40; off += 4) {
             uint32_t *cmd = set_sample(sample, 0);
-            uint64_t at = edges[i] + off - 20;
-            cmd[dword] = (uint32_t)at;
-            cmd[dword + 1] = (uint32_t)(at >> 32) & 0xFFFF;
+            put_address(cmd + dword, edges[i] + off - 20);
             if (!try_it()) return 0;
             cmd[dword] += (uint32_t)(4 * c.batch_len); /* the same about the batch's end */
             if (!try_it()) return 0;
@@ -215,13 +223,11 @@ static int sweep_address(uint32_t sample, uint32_t dword)
 
 static int sweep_range(uint32_t sample, uint32_t dword, uint32_t size_dword)
 {
-    static const uint64_t edges[] = {0x100000, 0x200000, 0x300000, 0x301000, 0x200044, 0, (uint64_t)1 << 48, 0x100000000};
+    static const uint64_t edges[] = {0x100000, 0x200000, 0x300000, 0x301000, 0x200044, 0, TOP, 0x100000000};
     static const uint32_t sizes[] = {0, 1, 2, 3, 4, 67, 68, 69, 4095, 4096, 4097, 0xFFFFFFFF};
     for (uint32_t i = 0; i < 8 * 12 * 5; i++) {
         uint32_t *cmd = set_sample(sample, 0);
-        uint64_t at = edges[i % 8] + i / 96 - 2;
-        cmd[dword] = (uint32_t)at;
-        cmd[dword + 1] = (uint32_t)(at >> 32) & 0xFFFF;
+        put_address(cmd + dword, edges[i % 8] + i / 96 - 2);
         cmd[size_dword] = sizes[i / 8 % 12];
         if (!try_it()) return 0;
     }
@@ -232,6 +238,162 @@ static int sweep_addresses(void)
 {
     return sweep_address(2, 1) && sweep_address(4, 1) && sweep_address(5, 1) && sweep_address(6, 2) &&
            sweep_address(7, 2) && sweep_address(9, 2) && sweep_range(12, 2, 4) && sweep_range(14, 2, 4);
+}
+
+/* ---- High dwords: of addresses that are used, and of others ---- */
+
+static const uint32_t highs[] = {0,          1,          0x7FFF,     0x8000,     0xFFFF,     0x10000,    0x17FFF,    0x18000, 0x7FFFFFFF,
+                                 0x80000000, 0xFFFEFFFF, 0xFFFF0000, 0xFFFF7FFF, 0xFFFF8000, 0xFFFFFFFE, 0xFFFFFFFF};
+enum { HIGHS = sizeof highs / sizeof highs[0] };
+
+/* Where the windows lie, and how long they are: below 2^47, from it on, up to it, about it one after the other, and up to 2^48. */
+static const struct home {
+    uint64_t batch, state, scratch;
+    uint32_t batch_len, state_len, scratch_len;
+} homes[] = {
+    {0x100000, 0x200000, 0x300000, 64, 32, 4096},
+    {HALF + 0x100000, HALF + 0x200000, HALF + 0x300000, 64, 32, 4096},
+    {HALF, HALF + 0x2000, HALF + 0x1000, 1024, 32, 4096},
+    {HALF + 0x2000, HALF, HALF + 0x1000, 64, 1024, 4095},
+    {HALF + 0x1000, HALF + 0x2000, HALF, 64, 32, 4099},
+    {HALF - 0x1000, HALF, HALF + 0x1000, 1024, 1024, 4096},
+    {HALF + 0x1000, HALF - 0x1000, HALF, 64, 1024, 4096},
+    {HALF, HALF + 0x1000, HALF - 0x1000, 64, 32, 4096},
+    {HALF - 0x1000, HALF + 0x1000, HALF - 0x2000, 2000, 32, 4096},
+    {HALF - 0x2000, HALF - 0x1000, HALF + 0x1000, 64, 2000, 4096},
+    {HALF - 0x3000, HALF - 0x2000, HALF - 0x1000, 64, 32, 8192},
+    {0x1000, 0x2000, HALF - 0x80000000, 64, 32, 0xFFFFFFFF},
+    {TOP - 0x3000, TOP - 0x2000, TOP - 0x1000, 64, 32, 4096},
+    {TOP - 0x1000, 0x1000, 0, 1024, 1024, 4096},
+    {0, TOP - 0x1000, TOP - 0x100001000, 1024, 1024, 0xFFFFFFFF},
+};
+enum { HOMES = sizeof homes / sizeof homes[0], HOME_ADDRESSES = 8 };
+
+/* A sample in those windows, with the base at the state window. */
+static uint32_t *set_home(uint32_t which, uint32_t sample)
+{
+    const struct home *h = &homes[which];
+    uint32_t *cmd = set_sample(sample, 0);
+    for (size_t i = c.batch_len; i < h->batch_len; i++) c.batch[i] = 0;
+    for (size_t i = c.state_len; i < h->state_len; i++) c.state[i] = 0;
+    c.batch_at = h->batch, c.state_at = h->state, c.scratch_at = h->scratch;
+    c.batch_len = h->batch_len, c.state_len = h->state_len, c.scratch_len = h->scratch_len;
+    put_address(c.batch + 6, h->state | 1);
+    return cmd;
+}
+
+/* Where something begins or ends there. */
+static uint64_t home_address(uint32_t which, uint32_t i)
+{
+    const struct home *h = &homes[which];
+    const uint64_t edges[HOME_ADDRESSES] = {h->batch, h->batch + 4 * h->batch_len,       h->state, h->state + 4 * h->state_len,
+                                            h->scratch, h->scratch + h->scratch_len / 8 * 8, HALF,     TOP};
+    return edges[i];
+}
+
+/* An address of a sample about each of these, as it has to be, with the upper bits of the other half, and with one of them too many. */
+static int sweep_halves(uint32_t sample, uint32_t low, uint32_t step, uint32_t size_dword, uint32_t size)
+{
+    for (uint32_t i = 0; i < HOMES * HOME_ADDRESSES * 5 * 3; i++) {
+        static const uint32_t turned[] = {0, 0xFFFF0000, 0x00010000};
+        uint32_t home = i / (HOME_ADDRESSES * 5) % HOMES, *cmd = set_home(home, sample);
+        put_address(cmd + low, home_address(home, i % HOME_ADDRESSES) + (uint64_t)(i / HOME_ADDRESSES % 5) * step - 2 * step);
+        cmd[low + 1] ^= turned[i / (HOME_ADDRESSES * 5 * HOMES)];
+        if (size_dword) cmd[size_dword] = size;
+        if (!try_it()) return 0;
+    }
+    return 1;
+}
+
+/* The same address at the beginning of scratch, in windows below 2^47 and above, with each high dword, and each bit above turned. */
+static int sweep_high(uint32_t sample, uint32_t low, uint32_t size_dword, uint32_t size)
+{
+    for (uint32_t i = 0; i < 2 * (16 + HIGHS); i++) {
+        uint32_t *cmd = set_home(i % 2, sample), kind = i / 2;
+        put_address(cmd + low, c.scratch_at);
+        cmd[low + 1] = kind < 16 ? cmd[low + 1] ^ 1u << (16 + kind) : highs[kind - 16];
+        if (size_dword) cmd[size_dword] = size;
+        if (!try_it()) return 0;
+    }
+    return 1;
+}
+
+/* Vertex buffers: which of three is used, and by what, with each high dword, beside faults that go first and that do not. */
+static int sweep_buffer_highs(uint32_t home)
+{
+    for (uint32_t i = 0; i < 3 * 8 * HIGHS * 6; i++) {
+        uint32_t which = i % 3, use = i / 3 % 8, kind = i / 24 % HIGHS, extra = i / 24 / HIGHS;
+        uint32_t *cmd = set_home(home, 12), *group = cmd + 1 + 4 * which;
+        cmd[0] = 0x7808000B;
+        for (uint32_t k = 1; k < 13; k += 4) {
+            cmd[k] = 0x4010, cmd[k + 3] = 4;
+            put_address(cmd + k + 1, c.scratch_at);
+        }
+        cmd[13] = 0x05000000;
+        group[0] = (use & 3) << 13 | 0x10;
+        group[2] = highs[kind];
+        group[3] = use & 4 ? 4 : 0;
+        if (extra == 1) cmd[9] |= 0x80000FFF; /* an index and a pitch in the last */
+        if (extra == 2) cmd[1] |= 0x80000FFF;
+        if (extra == 3) cmd[9] |= 0x8000; /* a bit in the last */
+        if (extra == 4) cmd[11] ^= 0x00010000;
+        if (extra == 5) cmd[2] -= 4; /* before scratch */
+        if (!try_it()) return 0;
+    }
+    return 1;
+}
+
+/* The bases: each used or not, with each high dword, beside faults before and behind it. */
+static int sweep_base_highs(void)
+{
+    static const uint8_t lows[] = {1, 4, 6, 8, 10};
+    for (uint32_t i = 0; i < 5 * 2 * HIGHS * 9; i++) {
+        uint32_t *cmd = set_sample(11, 0), low = lows[i % 5], used = i / 5 % 2, extra = i / 10 / HIGHS;
+        cmd[low] = used;
+        cmd[low + 1] = highs[i / 10 % HIGHS];
+        if (extra == 1) cmd[3] = 1;
+        if (extra == 2) cmd[15] = 2;
+        if (extra == 3) cmd[0] |= 0x100;
+        if (extra == 4) cmd[low] |= 2;
+        if (extra >= 5) { /* another one, used and not canonical, or not used and with a bit too many */
+            uint32_t other = lows[(i + extra) % 5];
+            if (other == low) other = lows[(i + extra + 1) % 5];
+            cmd[other] = extra % 2, cmd[other + 1] = extra < 7 ? 0x18000 : 0xFFFF8000;
+        }
+        if (!try_it()) return 0;
+    }
+    return 1;
+}
+
+/* Bases and pointers about the windows, 2^47 and 2^48, also where a sum of 48 bits would come to a window again. */
+static int sweep_home_pointers(uint32_t sample)
+{
+    for (uint32_t i = 0; i < HOMES * HOME_ADDRESSES * HOME_ADDRESSES * 2 * 3; i++) {
+        uint32_t home = i % HOMES, kind = i / HOMES % 3, page = i / (3 * HOMES) % 2;
+        uint32_t *cmd = set_home(home, sample);
+        uint64_t base = (home_address(home, i / (6 * HOMES) % HOME_ADDRESSES) & ~(uint64_t)0xFFF) - 0x1000 * page;
+        uint64_t at = home_address(home, i / (6 * HOMES * HOME_ADDRESSES)) & ~(uint64_t)63;
+        put_address(c.batch + 6, base | 1);
+        if (kind == 1) c.batch[7] ^= 0xFFFF0000;
+        cmd[1] = (uint32_t)(at - base - (kind == 2 ? 128 : 0)) | (samples[sample][2] & 1);
+        if (!try_it()) return 0;
+    }
+    return 1;
+}
+
+/* The samples' addresses: their low dword, the step that they are tried in, and, where they have one, the dword of their size, and a size. */
+static const uint32_t addresses[][5] = {{2, 1, 4, 0, 0},  {4, 1, 4, 0, 0},  {5, 1, 8, 0, 0},   {6, 2, 4, 0, 0},  {7, 2, 4, 0, 0},
+                                        {8, 2, 4, 0, 0},  {9, 2, 8, 0, 0},  {12, 2, 1, 4, 1},  {12, 2, 1, 4, 0}, {12, 2, 32, 4, 64},
+                                        {12, 6, 1, 8, 1}, {14, 2, 1, 4, 1}, {14, 2, 1, 4, 0},  {14, 2, 1, 4, 0xFFFFFFFF}};
+
+static int sweep_highs(void)
+{
+    for (uint32_t i = 0; i < sizeof addresses / sizeof addresses[0]; i++) {
+        const uint32_t *a = addresses[i];
+        if (!sweep_halves(a[0], a[1], a[2], a[3], a[4]) || !sweep_high(a[0], a[1], a[3], a[4])) return 0;
+    }
+    return sweep_buffer_highs(0) && sweep_buffer_highs(1) && sweep_base_highs() && sweep_home_pointers(16) && sweep_home_pointers(17) &&
+           sweep_home_pointers(BLEND_SAMPLE);
 }
 
 /* ---- Structures ---- */
@@ -330,7 +492,7 @@ static int sweep_pointers(uint32_t sample)
         uint64_t base = bases[i % 7];
         c.state_len = i / 7 % 18;
         c.state[17] = 0;
-        c.batch[6] = (uint32_t)base | 1, c.batch[7] = (uint32_t)(base >> 32);
+        put_address(c.batch + 6, base | 1);
         cmd[1] = (uint32_t)(0x200000 - base + 32 * (i / 126) - 64) | (samples[sample][2] & 1);
         if (!try_it()) return 0;
     }
@@ -341,8 +503,8 @@ static int sweep_pointers(uint32_t sample)
 
 static int sweep_windows(void)
 {
-    static const uint64_t places[] = {0, 0x1000, 0x2000, 0x2001, 0x3000, 0x0000FFFFFFFFF000, (uint64_t)1 << 48,
-                                      ((uint64_t)1 << 48) + 0x1000, (uint64_t)1 << 63, (uint64_t)0 - 0x1000};
+    static const uint64_t places[] = {0, 0x1000, 0x2000, 0x2001, 0x3000, TOP - 0x1000, TOP, TOP + 0x1000, (uint64_t)1 << 63,
+                                      (uint64_t)0 - 0x1000};
     static const uint32_t lens[][3] = {{1, 0, 0}, {1, 1, 1}, {1024, 1024, 4096}, {1025, 1025, 4097}, {1024, 0, 4096},
                                        {1024, 1024, 0}, {1, 4096, 0xFFFFFFFF}, {4096, 4097, 1}, {4097, 0, 8192}};
     for (uint32_t i = 0; i < 10 * 10 * 10 * 9; i++) {
@@ -461,7 +623,7 @@ static int sweep_files(void)
 int sweep(struct tally *t)
 {
     tally = t;
-    return sweep_cases() && sweep_samples() && sweep_lengths() && sweep_codes() && sweep_primitive() && sweep_addresses() &&
+    return sweep_cases() && sweep_samples() && sweep_lengths() && sweep_codes() && sweep_primitive() && sweep_addresses() && sweep_highs() &&
            sweep_structures() && sweep_blends() && sweep_pointers(16) && sweep_pointers(17) && sweep_pointers(BLEND_SAMPLE) &&
            sweep_windows() && sweep_many() && sweep_files();
 }

@@ -48,6 +48,7 @@ struct lungevati_answer {
  *
  *   batch, state    the two lent windows, only read, with their lengths in dwords and their addresses
  *   scratch         is known by its address and its length in bytes alone
+ *   the addresses   are plain numbers, also from 2^47 on, where those that commands use have ones above their 48 bits
  *   records         room for records_len records of one word each
  *
  * Of `records`, the words 0 to count - 1 hold the records of the accepted commands, in the order in which they ran; every

@@ -10,7 +10,7 @@ use lib.Dec.{leb, ltb}
 use lib.Seq.{take-suc}
 use borrow.Author.Tests.{leb-true, ltb-true, le-leb, lt-ltb}
 use Rattle.rules.specs.declared.Command.{Command}
-use Rattle.rules.specs.Uses.{addressAt}
+use Rattle.rules.specs.Uses.{pairAddress, addressAt}
 use Rattle.rules.specs.Step.{rowAt, lengthAt, dwordsAt}
 use Rattle.rules.specs.Records.{commandOf, commandsIn, wordsFor}
 use Rattle.sentences.specs.declared.Detail.the-variants.{NoMore}
@@ -64,7 +64,7 @@ unfolding commandOf
 record-length word = omega arith
 
 -- the address of a start, by its two dwords
-pub address-behind : (batch : List ℕ) (i : ℕ) → getD batch (i + 1) 0 + 2 ^ 32 * getD batch (i + 2) 0 ≡ addressAt batch (i + 1)
+pub address-behind : (batch : List ℕ) (i : ℕ) → pairAddress (getD batch (i + 1) 0) (getD batch (i + 2) 0) ≡ addressAt batch (i + 1)
 unfolding addressAt
 address-behind batch i = let e : i + 2 ≡ i + 1 + 1 = omega arith in rw e
 

@@ -8,7 +8,7 @@ use mathlib.Core.List.{List}
 use lib.ListN.{length}
 use borrow.Author.Tests.{ltb-false, not-true}
 use Rattle.rules.specs.declared.Access.{Access}
-use Rattle.rules.specs.declared.Access.the-variants.{Unused, Reaches}
+use Rattle.rules.specs.declared.Access.the-variants.{Unused, Reaches, NoRange}
 use Rattle.rules.specs.declared.Cursor.{Cursor}
 use Rattle.rules.specs.declared.Fault.{Fault}
 use Rattle.rules.specs.declared.Found.{Found}
@@ -48,6 +48,7 @@ module _ (c : Capture) (s : Cursor) where
       → f .index - s .at < lengthAt (c .batch) (s .at) → Outside f
   unfolding reachWith
   by-access Unused e w whole own = absurd (never-both w refl)
+  by-access NoRange e w whole own = absurd (never-both w refl)
   by-access {f} (Reaches n within) e w whole own = record {
     bytes = n;
     within = within;

@@ -5,7 +5,7 @@ use mathlib.Core.List.{List, [], _∷_}
 use lib.ListN.{length, take}
 use lib.Dec.{eqb, leb, ltb}
 use Rattle.rules.specs.declared.Access.{Access}
-use Rattle.rules.specs.declared.Access.the-variants.{Unused, Reaches}
+use Rattle.rules.specs.declared.Access.the-variants.{Unused, Reaches, NoRange}
 use Rattle.rules.specs.declared.Answer.{Answer}
 use Rattle.rules.specs.declared.Command.{Command}
 use Rattle.rules.specs.Commands.{endRow, startRow}
@@ -47,6 +47,7 @@ positionAfter batch batchAt records count = standsAfter batch batchAt 0 0 (comma
 abbrev pub reachOf : ℕ → ℕ → Access → Detail
 reachOf row address Unused = NoMore
 reachOf row address (Reaches bytes within) = Reach row address bytes within
+reachOf row address NoRange = NoMore
 
 -- what a command reaches with its dword k
 unfoldable pub reachWith : ℕ → List ℕ → ℕ → Detail

@@ -101,6 +101,7 @@ fn reach_of(row: usize, address: u64, access: Access) -> Detail
     match access {
         Access::Unused => Detail::NoMore,
         Access::Reaches(bytes, within) => Detail::Reach(row, address, bytes, within),
+        Access::NoRange => Detail::NoMore,
     }
 }
 

@@ -12,7 +12,8 @@ use lib.Dec.{eqb}
 use borrow.Author.Tests.{eqb-true, not-true}
 use Rattle.rules.specs.Words.{some}
 use Rattle.rules.specs.Commands.{rows, theRow, groupSize, rowCount}
-use Rattle.rules.specs.Values.{valueRules, ruleOf}
+use Rattle.rules.specs.Uses.{usesByRow, accessOf, usedHighOf}
+use Rattle.rules.specs.Values.{valueRules, ruleOf, highWrong, valueWrongOf}
 use Rattle.rules.proofs.Searching.{or-cases, never-both}
 use Rattle.rules.proofs.Tables.{each, at-each}
 use Rattle.commands.specs.Ruled.{ruledDwords, ruled, asBits, ruledBits}
@@ -46,14 +47,14 @@ either-way : (t : Bool) → cond t false false ≡ false
 either-way true = refl
 either-way false = refl
 
-module _ (d : List ℕ) (k w : ℕ) where
-  others-tested : each (λ r. each (λ j. ruled r j || not (ruleOf r d k j w)) (groupSize r + 1)) rowCount ≡ true
-  unfolding each some rows theRow groupSize ruledDwords ruled valueRules ruleOf
+module _ (d : List ℕ) (k : ℕ) where
+  others-tested : each (λ r. each (λ j. ruled r j || not (valueWrongOf r d k j)) (groupSize r + 1)) rowCount ≡ true
+  unfolding each some rows theRow groupSize ruledDwords ruled usesByRow accessOf usedHighOf valueRules ruleOf highWrong valueWrongOf
   others-tested = simp (and-false, either-way)
 
-  pub unruled : (r j : ℕ) → r < rowCount → j ≤ groupSize r → ruled r j ≡ false → ruleOf r d k j w ≡ false
+  pub unruled : (r j : ℕ) → r < rowCount → j ≤ groupSize r → ruled r j ≡ false → valueWrongOf r d k j ≡ false
   unruled r j h l e =
       ⊎-elim (λ t. absurd (never-both t e)) (λ t. not-true _ t)
       (or-cases (ruled r j) _
-      (at-each (λ j. ruled r j || not (ruleOf r d k j w)) (groupSize r + 1)
-      (at-each (λ r. each (λ j. ruled r j || not (ruleOf r d k j w)) (groupSize r + 1)) rowCount others-tested r h) j (omega arith)))
+      (at-each (λ j. ruled r j || not (valueWrongOf r d k j)) (groupSize r + 1)
+      (at-each (λ r. each (λ j. ruled r j || not (valueWrongOf r d k j)) (groupSize r + 1)) rowCount others-tested r h) j (omega arith)))

@@ -8,7 +8,7 @@ use lib.Dec.{eqb}
 use Rattle.rules.specs.Words.{some}
 use Rattle.rules.specs.Commands.{rowCount}
 
--- the dwords of its group that have a value rule, by row; 0 is the header
+-- the dwords of its group that have a value rule, by row, the high dwords of addresses among them (request 3); 0 is the header
 unfoldable pub ruledDwords : List (List ℕ)
 ruledDwords =
     -- 0 MI_NOOP
@@ -16,27 +16,27 @@ ruledDwords =
     -- 1 MI_BATCH_BUFFER_END
     ∷ []
     -- 2 MI_BATCH_BUFFER_START
-    ∷ (0 ∷ [])
+    ∷ (0 ∷ 2 ∷ [])
     -- 3 MI_LOAD_REGISTER_IMM
     ∷ (1 ∷ [])
     -- 4 MI_STORE_DATA_IMM
-    ∷ (1 ∷ [])
+    ∷ (1 ∷ 2 ∷ [])
     -- 5 MI_STORE_REGISTER_MEM
-    ∷ (1 ∷ [])
+    ∷ (1 ∷ 3 ∷ [])
     -- 6 MI_LOAD_REGISTER_MEM
-    ∷ (1 ∷ [])
+    ∷ (1 ∷ 3 ∷ [])
     -- 7 PIPE_CONTROL
     ∷ (2 ∷ 3 ∷ 4 ∷ 5 ∷ [])
     -- 8 PIPELINE_SELECT
     ∷ []
     -- 9 STATE_BASE_ADDRESS
-    ∷ []
+    ∷ (2 ∷ 5 ∷ 7 ∷ 9 ∷ 11 ∷ [])
     -- 10 3DSTATE_VERTEX_BUFFERS
-    ∷ (1 ∷ [])
+    ∷ (1 ∷ 3 ∷ [])
     -- 11 3DSTATE_VERTEX_ELEMENTS
     ∷ (1 ∷ 2 ∷ [])
     -- 12 3DSTATE_INDEX_BUFFER
-    ∷ (1 ∷ [])
+    ∷ (1 ∷ 3 ∷ [])
     -- 13 3DSTATE_VF_TOPOLOGY
     ∷ (1 ∷ [])
     -- 14 3DSTATE_VIEWPORT_STATE_POINTERS_CC

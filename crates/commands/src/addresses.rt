@@ -1,9 +1,12 @@
-// The addresses that a command uses (13): whether its dword k, the dword j of its group, is the low dword of one.
+// The addresses that a command uses: whether its dword k, the dword j of its group, is the low dword of one, or the high dword.
 ghost use mathlib.Core.Path.{_≡_};
 ghost use mathlib.Core.List.{[], _∷_};
 ghost use Prim.Native.Nat.{_-_, _<_};
 ghost use lib.ListN.{length, getD};
-ghost use Rattle.rules.specs.Uses.{startUse, storeUse, storeRegisterUse, loadRegisterUse, pipeUse, vertexBufferUse, indexBufferUse, accessOf, sized};
+ghost use lib.Dec.{eqb};
+ghost use Rattle.rules.specs.Words.{some};
+ghost use Rattle.rules.specs.Uses.{startUse, storeUse, storeRegisterUse, loadRegisterUse, pipeUse, baseUse, vertexBufferUse, indexBufferUse, accessOf, sized};
+ghost use Rattle.rules.specs.Uses.{isUsed, usedHighOf};
 use rules::Access;
 use rules::Within;
 use rules::names::BASE_ROW;
@@ -81,6 +84,30 @@ fn pipe_use(command: &[u32], j: usize) -> Access
     Access::Reaches(8, Within::ScratchOnly)
 }
 
+// The low dwords of the five bases.
+fn is_base(j: usize) -> bool
+    ensures { λ r. ⌜ r ≡ some (eqb j) (1 ∷ 4 ∷ 6 ∷ 8 ∷ 10 ∷ []) ⌝ }
+{
+    match j {
+        1 | 4 | 6 | 8 | 10 => true,
+        _ => false,
+    }
+}
+
+// A base is used where bit 0 of its low dword is set.
+fn base_use(j: usize, word: u32) -> Access
+    ensures { λ r. ⌜ r ≡ baseUse [] 0 j word ⌝ }
+{
+    if !is_base(j) {
+        return Access::Unused;
+    }
+    if word % 2 == 1 {
+        Access::NoRange
+    } else {
+        Access::Unused
+    }
+}
+
 // A range of so many bytes, if there are any.
 fn sized_use(size: u32) -> Access
     ensures { λ r. ⌜ r ≡ sized size ⌝ }
@@ -147,7 +174,7 @@ pub fn access_of(row: usize, command: &[u32], k: usize, j: usize) -> Access
         LOAD_REGISTER_ROW => load_register_use(j),
         PIPE_ROW => pipe_use(command, j),
         SELECT_ROW => Access::Unused,
-        BASE_ROW => Access::Unused,
+        BASE_ROW => base_use(j, command[k]),
         VERTEX_BUFFERS_ROW => vertex_buffer_use(command, k, j),
         VERTEX_ELEMENTS_ROW => Access::Unused,
         INDEX_BUFFER_ROW => index_buffer_use(command, k, j),
@@ -158,4 +185,51 @@ pub fn access_of(row: usize, command: &[u32], k: usize, j: usize) -> Access
         BLEND_ROW => Access::Unused,
         _ => Access::Unused,
     }
+}
+
+fn is_used(access: Access) -> bool
+    ensures { λ r. ⌜ r ≡ isUsed access ⌝ }
+{
+    match access {
+        Access::Unused => false,
+        Access::Reaches(_, _) => true,
+        Access::NoRange => true,
+    }
+}
+
+// Whether the command uses an address with its low dword at k, the dword j of its group. It asks the rows' uses itself, so that `access_of` is asked
+// in one place only, into which it is compiled.
+fn low_used(row: usize, command: &[u32], k: usize, j: usize) -> bool
+    requires { ⌜ k < length (now command) ⌝ }
+    ensures { λ r. ⌜ r ≡ isUsed (accessOf row (now (command .entry)) k j (getD (now (command .entry)) k 0)) ⌝ }
+{
+    match row {
+        NOOP_ROW => false,
+        END_ROW => false,
+        START_ROW => is_used(start_use(j)),
+        SET_REGISTERS_ROW => false,
+        STORE_ROW => is_used(store_use(command, j)),
+        STORE_REGISTER_ROW => is_used(store_register_use(j)),
+        LOAD_REGISTER_ROW => is_used(load_register_use(j)),
+        PIPE_ROW => is_used(pipe_use(command, j)),
+        SELECT_ROW => false,
+        BASE_ROW => is_used(base_use(j, command[k])),
+        VERTEX_BUFFERS_ROW => is_used(vertex_buffer_use(command, k, j)),
+        VERTEX_ELEMENTS_ROW => false,
+        INDEX_BUFFER_ROW => is_used(index_buffer_use(command, k, j)),
+        TOPOLOGY_ROW => false,
+        VIEWPORT_ROW => false,
+        COLOUR_ROW => false,
+        PRIMITIVE_ROW => false,
+        BLEND_ROW => false,
+        _ => false,
+    }
+}
+
+// Whether the dword k, the dword j of its group, is the high dword of an address that the command uses.
+pub fn high_used(row: usize, command: &[u32], k: usize, j: usize) -> bool
+    requires { ⌜ k < length (now command) ⌝ }
+    ensures { λ r. ⌜ r ≡ usedHighOf row (now (command .entry)) k j ⌝ }
+{
+    low_used(row, command, before(k), before(j))
 }

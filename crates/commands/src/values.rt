@@ -1,4 +1,5 @@
-// The value rules (12): which dwords of a row have one, and whether a dword, the dword j of its group, breaks the rule of its row.
+// The value rules (12): which dwords of a row have one, and whether a dword, the dword j of its group, breaks the rule of its row, or is a used
+// high dword that is not canonical.
 ghost use mathlib.Core.Path.{_≡_};
 ghost use mathlib.Core.List.{[], _∷_};
 ghost use Prim.Native.Nat.{_<_};
@@ -6,8 +7,9 @@ ghost use lib.ListN.{length, getD};
 ghost use Rattle.rules.specs.Formats.{surfaceFormats};
 ghost use Rattle.rules.specs.Commands.{rowCount};
 ghost use Rattle.rules.specs.Values.{startRule, registerRule, storeRule, pipeRule, vertexBufferRule, indexBufferRule, topologyRule, primitiveRule};
-ghost use Rattle.rules.specs.Values.{afterZero, componentsWrong, vertexElementRule, ruleOf};
+ghost use Rattle.rules.specs.Values.{afterZero, componentsWrong, vertexElementRule, ruleOf, highWrong, valueWrongOf};
 ghost use Rattle.commands.specs.Ruled.{ruled, ruledBits};
+use crate::addresses::high_used;
 use rules::names::BASE_ROW;
 use rules::names::BLEND_ROW;
 use rules::names::COLOUR_ROW;
@@ -26,6 +28,7 @@ use rules::names::TOPOLOGY_ROW;
 use rules::names::VERTEX_BUFFERS_ROW;
 use rules::names::VERTEX_ELEMENTS_ROW;
 use rules::names::VIEWPORT_ROW;
+use words::dwords::canonical;
 use words::dwords::dword;
 
 // The dwords of a row's group that have a value rule, a bit each; bit 0 is the header.
@@ -35,17 +38,17 @@ fn ruled_bits(row: usize) -> u32
     match row {
         NOOP_ROW => 0,
         END_ROW => 0,
-        START_ROW => 0b1,
+        START_ROW => 0b101,
         SET_REGISTERS_ROW => 0b10,
-        STORE_ROW => 0b10,
-        STORE_REGISTER_ROW => 0b10,
-        LOAD_REGISTER_ROW => 0b10,
+        STORE_ROW => 0b110,
+        STORE_REGISTER_ROW => 0b1010,
+        LOAD_REGISTER_ROW => 0b1010,
         PIPE_ROW => 0b11_1100,
         SELECT_ROW => 0,
-        BASE_ROW => 0,
-        VERTEX_BUFFERS_ROW => 0b10,
+        BASE_ROW => 0b1010_1010_0100,
+        VERTEX_BUFFERS_ROW => 0b1010,
         VERTEX_ELEMENTS_ROW => 0b110,
-        INDEX_BUFFER_ROW => 0b10,
+        INDEX_BUFFER_ROW => 0b1010,
         TOPOLOGY_ROW => 0b10,
         VIEWPORT_ROW => 0,
         COLOUR_ROW => 0,
@@ -220,8 +223,8 @@ fn primitive_wrong(command: &[u32], j: usize, word: u32) -> bool
     j == 6
 }
 
-// Whether the dword k, the dword j of its group, breaks the value rule of its row.
-pub fn value_wrong(row: usize, command: &[u32], k: usize, j: usize, formats: &[u16; 512]) -> bool
+// Whether the dword k, the dword j of its group, breaks the rule of its row.
+fn rule_broken(row: usize, command: &[u32], k: usize, j: usize, formats: &[u16; 512]) -> bool
     requires { ⌜ (k < length (now command)) × (now formats ≡ surfaceFormats) ⌝ }
     ensures { λ r. ⌜ r ≡ ruleOf row (now (command .entry)) k j (getD (now (command .entry)) k 0) ⌝ }
 {
@@ -247,4 +250,26 @@ pub fn value_wrong(row: usize, command: &[u32], k: usize, j: usize, formats: &[u
         BLEND_ROW => false,
         _ => false,
     }
+}
+
+// Whether the dword k, the dword j of its group, is the high dword of a used address and not canonical.
+fn high_wrong(row: usize, command: &[u32], k: usize, j: usize) -> bool
+    requires { ⌜ k < length (now command) ⌝ }
+    ensures { λ r. ⌜ r ≡ highWrong row (now (command .entry)) k j ⌝ }
+{
+    if canonical(command[k]) {
+        return false;
+    }
+    high_used(row, command, k, j)
+}
+
+// Whether the dword k, the dword j of its group, breaks a value rule: that of a used high dword, or that of its row.
+pub fn value_wrong(row: usize, command: &[u32], k: usize, j: usize, formats: &[u16; 512]) -> bool
+    requires { ⌜ (k < length (now command)) × (now formats ≡ surfaceFormats) ⌝ }
+    ensures { λ r. ⌜ r ≡ valueWrongOf row (now (command .entry)) k j ⌝ }
+{
+    if high_wrong(row, command, k, j) {
+        return true;
+    }
+    rule_broken(row, command, k, j, formats)
 }

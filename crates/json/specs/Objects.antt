@@ -15,9 +15,9 @@ use Rattle.json.specs.declared.Told.{Told}
 use Rattle.json.specs.declared.Totals.{Totals}
 use Rattle.json.specs.Strings.{quoted}
 
--- the rules that are checked: document 01 with requests 1, 2 and 6, by number. Each landing changes it, here and in `RULES`
+-- the rules that are checked: document 01 with requests 1, 2, 3 and 6, by number. Each landing changes it, here and in `RULES`
 abbrev pub rulesText : List ℕ
-rulesText = bytes "01+1+2+6"
+rulesText = bytes "01+1+2+3+6"
 
 unfoldable pub outcomeText : Outcome → List ℕ
 outcomeText Accepted = bytes "accepted"

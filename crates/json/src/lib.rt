@@ -19,7 +19,7 @@ mod parts;
 mod reasons;
 
 // The rules that are checked: document 01 with request 6. Each landing changes it, here and in the definition.
-pub const RULES: [u8; 8] = *b"01+1+2+6";
+pub const RULES: [u8; 10] = *b"01+1+2+3+6";
 
 // A number, or null.
 pub enum Number {

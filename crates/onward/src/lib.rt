@@ -11,6 +11,7 @@ use rules::Level;
 use rules::names::BASE_ROW;
 use rules::names::END_ROW;
 use rules::names::START_ROW;
+use words::dwords::address_of;
 use words::dwords::dword;
 
 pub fn level_number(level: Level) -> usize
@@ -49,9 +50,9 @@ pub fn dword_of(at: u64, address: u64) -> usize
 fn target(at: u64, command: &[u32]) -> usize
     ensures { λ r. ⌜ r ≡ (addressAt (now (command .entry)) 1 - at) / 4 ⌝ }
 {
-    let low = dword(command, 1) as u64;
-    let high = dword(command, 2) as u64;
-    dword_of(at, low + 0x1_0000_0000 * high)
+    let low = dword(command, 1);
+    let high = dword(command, 2);
+    dword_of(at, address_of(low, high))
 }
 
 // A start with bit 22 set keeps the position after itself.

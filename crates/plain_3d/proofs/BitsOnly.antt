@@ -1,8 +1,8 @@
 -- Rows of one length with no value rule and no address: 10 is all that can be wrong with their dwords.
 -- Assumes nothing.
-use Prim.Native.Nat.{ℕ, _+_, _%_, _≤_, _<_}
+use Prim.Native.Nat.{ℕ, _+_, _-_, _%_, _≤_, _<_}
 use native.Mathlib.Omega.{arith}
-use mathlib.Core.Path.{_≡_, refl, sym, ap, _∙_}
+use mathlib.Core.Path.{_≡_, refl, sym, ap, fun-ext, _∙_}
 use mathlib.Core.Bool.{Bool, true, false, cond, not}
 use mathlib.Core.List.{List, [], _∷_}
 use mathlib.Core.Logic.{⊎-elim}
@@ -16,20 +16,25 @@ use Rattle.rules.specs.Words.{allowed, inGroup, firstFrom}
 use Rattle.rules.specs.Refusals.{numberOf}
 use Rattle.rules.specs.Commands.{exactly, Row, rowCount, theRow, rowOf, spot, groupSize}
 use Rattle.rules.specs.Masks.{headerMask, masksOf, allowedOf, allowedAt, bitWrong}
-use Rattle.rules.specs.Uses.{noUse, accessOf}
-use Rattle.rules.specs.Values.{Rule, noRule, ruleOf, valueWrong}
+use Rattle.rules.specs.Uses.{Uses, noUse, accessOf, isUsed, usedHighOf}
+use Rattle.rules.specs.Values.{Rule, noRule, ruleOf, highWrong, valueWrongOf, valueWrong}
 use Rattle.rules.proofs.Searching.{either, finds-none}
 use Rattle.looks.specs.Looks.{contentOf}
 use Rattle.plain_mi.specs.Plain.{coded, firstCoded, wrongOf, wholeHeader}
 use Rattle.plain_3d.specs.Pointer.{pointerOf}
-use Rattle.plain_mi.proofs.Bare.{no-range}
+use Rattle.plain_mi.proofs.Bare.{no-address, no-range}
 use Rattle.plain_mi.proofs.Coding.{alone}
 use Rattle.plain_mi.proofs.Lengths.{listed, as-many, exact-says}
 use Rattle.plain_mi.proofs.Whole.{WholeRow, whole-refuses, head-is, head-fits, first-answers, then-answers}
 
-no-value : (r : ℕ) → ruleOf r ≡ noRule → (d : List ℕ) → valueWrong r d ≡ (λ (k : ℕ). false)
-unfolding valueWrong
-no-value r e d = ap {B = ℕ → Bool} (λ (rule : Rule). λ k. rule d k (spot r k) (getD d k 0)) e
+-- where no address is used, no dword is a used high dword
+no-high : (r : ℕ) → accessOf r ≡ noUse → (d : List ℕ) (k j : ℕ) → usedHighOf r d k j ≡ false
+unfolding usedHighOf
+no-high r e d k j = ap (λ (u : Uses). isUsed (u d (k - 1) (j - 1) (getD d (k - 1) 0))) e
+
+no-value : (r : ℕ) → ruleOf r ≡ noRule → accessOf r ≡ noUse → (d : List ℕ) → valueWrong r d ≡ (λ (k : ℕ). false)
+unfolding highWrong valueWrongOf valueWrong
+no-value r e u d = fun-ext (λ k. rw (no-high r u d k (spot r k)) (ap (λ (rule : Rule). rule d k (spot r k) (getD d k 0)) e))
 
 module _ (r f : ℕ) (t : theRow r .total ≡ exactly f) (no-rule : ruleOf r ≡ noRule) (no-use : accessOf r ≡ noUse) (w : Windows)
     (rest : List ℕ) (e : getD rest 0 0 % 256 ≡ f) (h : f + 2 ≤ length rest) where
@@ -37,7 +42,7 @@ module _ (r f : ℕ) (t : theRow r .total ≡ exactly f) (no-rule : ruleOf r ≡
   unfolding contentOf
   bits-only d =
       let none = finds-none (λ (i : ℕ). false) 0 (length d) (λ i from to. refl) in
-      rw (no-value r no-rule d, no-range r no-use w d, none) (alone _)
+      rw (no-value r no-rule no-use d, no-range r (no-address r no-use) w d, none) (alone _)
 
   pub bits-say : {x : ℕ} → x ≡ firstCoded BitNotAllowed (bitWrong r (listed rest 0 (f + 2))) 0 (f + 2) → x ≡ wrongOf w r rest First
   bits-say q =
@@ -88,8 +93,8 @@ module _ {r header mask : ℕ} (g : PointerRow r header mask) (w : Windows) (res
 
     dword-decides : (wrong : Bool) → not (allowed (getD rest 1 0) mask) ≡ wrong → cond wrong 2561 0 ≡ wrongOf w r rest First
     unfolding coded firstFrom numberOf bitWrong allowedAt allowedOf masksOf inGroup groupSize
-    dword-decides true a = bits-say r 0 total (g .no-rule) (g .no-use) w rest field fits (rw (kept, g .masks, a))
-    dword-decides false a = bits-say r 0 total (g .no-rule) (g .no-use) w rest field fits (rw (kept, g .masks, a))
+    dword-decides true a = bits-say r 0 total (g .no-rule) (g .no-use) w rest field fits (rw (no-high r (g .no-use), kept, no-high r (g .no-use), g .masks, a))
+    dword-decides false a = bits-say r 0 total (g .no-rule) (g .no-use) w rest field fits (rw (no-high r (g .no-use), kept, no-high r (g .no-use), g .masks, a))
 
   pub pointer-decides : rowOf (getD rest 0 0) ≡ r → {x : ℕ} → x ≡ pointerOf rest header mask → x ≡ wrongOf w r rest First
   unfolding pointerOf

@@ -1,6 +1,6 @@
 -- The range of a vertex buffer: it has one address at most, whose low dword is its second.
 -- Assumes nothing.
-use Prim.Native.Nat.{ℕ, _+_, _-_, _*_, _/_, _%_, _^_, _<_}
+use Prim.Native.Nat.{ℕ, _+_, _-_, _/_, _%_, _^_, _<_}
 use native.Mathlib.Nat.{div-div-eq-div-mul}
 use native.Mathlib.Omega.{arith}
 use mathlib.Core.Path.{_≡_, refl, sym, ap, _∙_}
@@ -10,15 +10,15 @@ use mathlib.Core.Logic.{⊎-elim}
 use lib.ListN.{getD}
 use borrow.Author.Tests.{eqb-true, eqb-false, eq-eqb, ne-eqb}
 use Rattle.rules.specs.declared.Access.{Access}
-use Rattle.rules.specs.declared.Access.the-variants.{Unused}
+use Rattle.rules.specs.declared.Access.the-variants.{Unused, Reaches, NoRange}
 use Rattle.rules.specs.declared.Reason.the-variants.{RangeOutside}
 use Rattle.rules.specs.declared.Windows.{Windows}
 use Rattle.rules.specs.Words.{bit}
 use Rattle.rules.specs.Commands.{vertexBuffersRow, rows, theRow, groupSize}
-use Rattle.rules.specs.Uses.{sized, usesByRow, accessOf, addressAt, accessAt}
+use Rattle.rules.specs.Uses.{pairAddress, sized, usesByRow, accessOf, addressAt, accessAt, isUsed, usedHighOf}
 use Rattle.rules.specs.Refusals.{numberOf}
 use Rattle.rules.specs.Addresses.{accessWrong, rangeWrong}
-use Rattle.rules.proofs.Searching.{either}
+use Rattle.rules.proofs.Searching.{either, never-both}
 use Rattle.plain_mi.specs.Plain.{firstCoded, freeFrom, GroupAt}
 use Rattle.plain_mi.proofs.Coding.{found-at, passed-at, none-left}
 use Rattle.plain_mi.proofs.Cleanness.{coded-free, coded-faulty}
@@ -49,10 +49,19 @@ without-address x n =
         let q : x / 2 ^ 13 / 2 ≡ x / 2 ^ 14 = div-div-eq-div-mul x (2 ^ 13) 2 in
         in-two (x / 2 ^ 13) a (ap (λ (n : ℕ). n % 2) q ∙ b)
 
+-- whether its address is used, by its flags and its size
+pub used-is : (d : List ℕ) (k : ℕ) {a : Access} → cond (not (bit (getD d k 0) 13) && bit (getD d k 0) 14) (sized (getD d (k + 3) 0)) Unused ≡ a
+    → usedHighOf vertexBuffersRow d (k + 2) 3 ≡ isUsed a
+unfolding usesByRow accessOf usedHighOf
+used-is d k e =
+    let p : k + 2 - 1 - 1 ≡ k = omega arith in
+    let q : k + 2 - 1 + 2 ≡ k + 3 = omega arith in
+    rw (p, q, e)
+
 module _ (w : Windows) (d : List ℕ) (k : ℕ) (g : GroupAt 4 d k) where
   -- the access of its second dword
   pub range-is : {a : Access} → cond (not (bit (getD d k 0) 13) && bit (getD d k 0) 14) (sized (getD d (k + 3) 0)) Unused ≡ a
-      → rangeWrong w vertexBuffersRow d (k + 1) ≡ accessWrong w (getD d (k + 1) 0 + 2 ^ 32 * getD d (k + 2) 0) a
+      → rangeWrong w vertexBuffersRow d (k + 1) ≡ accessWrong w (pairAddress (getD d (k + 1) 0) (getD d (k + 2) 0)) a
   unfolding rows theRow groupSize usesByRow accessOf accessAt addressAt rangeWrong
   range-is e =
       let p : k + 1 - 1 ≡ k = omega arith in
@@ -60,6 +69,17 @@ module _ (w : Windows) (d : List ℕ) (k : ℕ) (g : GroupAt 4 d k) where
       let s : k + 1 + 1 ≡ k + 2 = omega arith in
       let at = spot-in 4 k 1 (g .0) (g .2) (omega arith) refl in
       rw (at, p, q, s, e)
+
+  -- of an address that is not used none is asked
+  pub unused-fits : usedHighOf vertexBuffersRow d (k + 2) 3 ≡ false → rangeWrong w vertexBuffersRow d (k + 1) ≡ false
+  unused-fits e =
+      let own = cond (not (bit (getD d k 0) 13) && bit (getD d k 0) 14) (sized (getD d (k + 3) 0)) Unused in
+      range-is {a = own} refl ∙ none own (sym (used-is d k {a = own} refl) ∙ e)
+    where
+      none : (a : Access) → isUsed a ≡ false → accessWrong w (pairAddress (getD d (k + 1) 0) (getD d (k + 2) 0)) a ≡ false
+      none Unused e = refl
+      none (Reaches bytes allowed) e = absurd (never-both refl e)
+      none NoRange e = refl
 
   -- the others have none
   quiet : (i j : ℕ) → i < 4 → j ≡ i + 1 → accessOf vertexBuffersRow d (k + i) j (getD d (k + i) 0) ≡ Unused

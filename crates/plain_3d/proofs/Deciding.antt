@@ -28,10 +28,10 @@ use Rattle.looks.specs.declared.Look.the-variants.{Whole, Wrong}
 use Rattle.looks.specs.Looks.{contentOf, ownOf, lookOf}
 use Rattle.looks.proofs.LookLaws.{both-pass}
 use Rattle.plain_mi.specs.Plain.{coded, wrongOf, bareOf, noWindows}
-use Rattle.plain_mi.proofs.Bare.{bare}
+use Rattle.plain_mi.proofs.Bare.{Unasked, bare}
 use Rattle.plain_mi.proofs.Bounds.{AllNear, near-at, fault-near, verdictOf, verdict-near, Told, told, wrong-passes}
 use Rattle.plain_mi.proofs.Coding.{coded-passes}
-use Rattle.plain_mi.proofs.Headers.{one-dword}
+use Rattle.plain_mi.proofs.Headers.{header-bits, one-dword}
 use Rattle.plain_mi.proofs.Placing.{placed, own-placed, told-placed}
 use Rattle.plain_3d.specs.declared.Seen.{Seen}
 use Rattle.plain_3d.specs.Seeing.{OfType3, Sees}
@@ -66,9 +66,10 @@ any-level w r rest level n = rw n
 -- a command of one dword is known by its header
 pub header-alone : (w : Windows) (r : ℕ) (rest : List ℕ) (level : Level) → theRow r .total ≡ noField → ruleOf r ≡ noRule
     → accessOf r ≡ noUse → nested r level ≡ false → 0 < length rest → bareOf r (getD rest 0 0 ∷ []) ≡ wrongOf w r rest level
-unfolding bitWrong allowedAt allowedOf
 header-alone w r (x ∷ rest) level t rule uses n h =
-    one-dword noWindows r (x ∷ []) First t rule uses refl (omega arith) ∙ sym (one-dword w r (x ∷ rest) level t rule uses n h)
+    one-dword noWindows r (x ∷ []) First t rule uses refl (omega arith)
+    ∙ ap (λ (b : Bool). cond b 2560 0) (header-bits r (x ∷ []) ∙ sym (header-bits r (x ∷ rest)))
+    ∙ sym (one-dword w r (x ∷ rest) level t rule uses n h)
 
 -- how long a command of a row is: of one dword, of one length where its field is right
 pub one-long : (r header : ℕ) → theRow r .total ≡ noField → 1 ≡ lengthOf r header
@@ -107,9 +108,9 @@ module _ (w : Windows) (batch : List ℕ) (at : ℕ) (level : Level) (r : ℕ) (
 
   pub sees-bare : (s : Seen) {len answer : ℕ} {rest : List ℕ} → (s .row ≡ r) × (s .length ≡ len) × (s .wrong ≡ answer)
       → (lengthRight r (headerAt batch at) ≡ true → len ≡ lengthOf r (headerAt batch at)) → answer ≡ bareOf r rest
-      → rest ≡ drop at batch → accessOf r ≡ noUse → nested r level ≡ false → Sees w batch at level s
-  sees-bare s {rest = rest} found counted says lent uses n =
-      sees-within s found counted (says ∙ sym (bare r uses w level n rest)) lent
+      → rest ≡ drop at batch → Unasked r → nested r level ≡ false → Sees w batch at level s
+  sees-bare s {rest = rest} found counted says lent unasked n =
+      sees-within s found counted (says ∙ sym (bare r unasked w level n rest)) lent
 
   pub sees-alone : (s : Seen) {answer header : ℕ} → (s .row ≡ r) × (s .length ≡ 1) × (s .wrong ≡ answer)
       → answer ≡ bareOf r (header ∷ []) → header ≡ headerAt batch at → at < length batch → theRow r .total ≡ noField → ruleOf r ≡ noRule

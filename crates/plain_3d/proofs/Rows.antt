@@ -1,14 +1,15 @@
 -- The rows of type 3 with one length whose header has no free bits: what the table says of them, and their tests as the code asks them.
 -- Assumes nothing.
-use Prim.Native.Nat.{ℕ, _+_, _*_, _/_, _%_, _^_, _<_}
+use Prim.Native.Nat.{ℕ, _/_, _%_, _^_, _<_}
 use mathlib.Core.Path.{_≡_, refl, sym, ap, _∙_}
-use mathlib.Core.Bool.{not, Bool·not-not}
+use mathlib.Core.Bool.{Bool, true, false, cond, not, _&&_, _||_, or-false, Bool·not-not}
 use mathlib.Core.List.{List, [], _∷_}
 use lib.ListN.{getD}
 use lib.Dec.{eqb, lit≤}
 use borrow.Author.Tests.{eq-eqb, ne-eqb}
 use Rattle.rules.specs.declared.Windows.{Windows}
-use Rattle.rules.specs.declared.Within.the-variants.{ScratchOnly}
+use Rattle.rules.specs.declared.Within.the-variants.{ScratchOnly, AnyWindow}
+use Rattle.rules.specs.declared.Access.the-variants.{Unused, Reaches}
 use Rattle.rules.specs.declared.Level.the-variants.{First}
 use Rattle.rules.specs.declared.Reason.the-variants.{ValueBroken}
 use Rattle.rules.specs.Words.{allowed, inGroup}
@@ -16,12 +17,12 @@ use Rattle.rules.specs.Refusals.{numberOf}
 use Rattle.rules.specs.Windows.{fits}
 use Rattle.rules.specs.Formats.{knownTopology}
 use Rattle.rules.specs.Commands.{pipeRow, baseRow, indexBufferRow, topologyRow, rows, theRow, groupSize}
-use Rattle.rules.specs.Uses.{postSync, sized, usesByRow, accessOf, accessAt, addressAt}
+use Rattle.rules.specs.Uses.{postSync, sized, usesByRow, accessOf, accessAt, pairAddress, addressAt, canonical, isUsed, usedHighOf}
 use Rattle.rules.specs.Masks.{masksOf, allowedOf, allowedAt, bitWrong}
-use Rattle.rules.specs.Values.{valueRules, ruleOf, valueWrong}
+use Rattle.rules.specs.Values.{valueRules, ruleOf, highWrong, valueWrongOf, valueWrong}
 use Rattle.rules.specs.Addresses.{accessWrong, rangeWrong}
 use Rattle.plain_mi.specs.Plain.{firstCoded, wrongOf, wholeHeader}
-use Rattle.plain_mi.proofs.Dwords.{any-dword}
+use Rattle.rules.proofs.Used.{any-dword, used-or-kept}
 use Rattle.plain_mi.proofs.Tests.{Test, answered, tested, content, searched-last}
 use Rattle.plain_mi.proofs.Whole.{WholeRow, head-is, whole-decides}
 
@@ -41,29 +42,50 @@ pub topology-row : WholeRow topologyRow 0x784B0000
 unfolding rows theRow
 topology-row = record { known = lit≤ tt; total = refl; key = refl; free = refl }
 
--- row 7: 10, and behind it 12 and 13
+-- row 7: 10 of its first two dwords, and behind them 10 of the high dword, 12 and 13
 abbrev pub pipe-bits : List ℕ → List Test
-pipe-bits d =
-    (not (allowed (getD d 1 0) 0x0010FCBF), 2561)
-    ∷ (not (allowed (getD d 2 0) 0xFFFFFFFC), 2562)
-    ∷ (not (allowed (getD d 3 0) 0x0000FFFF), 2563)
-    ∷ []
+pipe-bits d = (not (allowed (getD d 1 0) 0x0010FCBF), 2561) ∷ (not (allowed (getD d 2 0) 0xFFFFFFFC), 2562) ∷ []
+
+abbrev pipe-rest : Windows → List ℕ → ℕ
+pipe-rest w d = tested 12 (valueWrong pipeRow d) 0 6 (tested 13 (rangeWrong w pipeRow d) 0 6 0)
 
 abbrev pub pipe-behind : Windows → List ℕ → ℕ
-pipe-behind w d = tested 12 (valueWrong pipeRow d) 0 6 (tested 13 (rangeWrong w pipeRow d) 0 6 0)
+pipe-behind w d = cond (bitWrong pipeRow d 3) 2563 (pipe-rest w d)
 
 -- which are these with post-sync
 abbrev pub pipe-tests : Windows → List ℕ → List Test
-pipe-tests w d = (not (eqb (getD d 2 0 % 8) 0), 3074) ∷ (not (fits w ScratchOnly (getD d 2 0 + 2 ^ 32 * getD d 3 0) 8), 3330) ∷ []
+pipe-tests w d =
+    (not (eqb (getD d 2 0 % 8) 0), 3074)
+    ∷ (not (canonical (getD d 3 0)), 3075)
+    ∷ (not (fits w ScratchOnly (pairAddress (getD d 2 0) (getD d 3 0)) 8), 3330)
+    ∷ []
+
+-- and these without
+abbrev pub unsynced-tests : List ℕ → List Test
+unsynced-tests d = (not (allowed (getD d 3 0) 0x0000FFFF), 2563) ∷ []
 
 -- row 12
 abbrev pub index-buffer-tests : Windows → List ℕ → List Test
 index-buffer-tests w d =
     (not (allowed (getD d 1 0) 0x0000037F), 2561)
-    ∷ (not (allowed (getD d 3 0) 0x0000FFFF), 2563)
+    ∷ (not (not (eqb (getD d 4 0) 0) || allowed (getD d 3 0) 0x0000FFFF), 2563)
     ∷ (eqb (getD d 1 0 / 0x100 % 4) 3, 3073)
-    ∷ (not (not (accessWrong w (getD d 2 0 + 2 ^ 32 * getD d 3 0) (sized (getD d 4 0)))), 3330)
+    ∷ (not (not (not (eqb (getD d 4 0) 0) && not (canonical (getD d 3 0)))), 3075)
+    ∷ (not (not (accessWrong w (pairAddress (getD d 2 0) (getD d 3 0)) (sized (getD d 4 0)))), 3330)
     ∷ []
+
+-- its header keeps its mask
+index-header-kept : allowed 0x780A0003 0x780A00FF ≡ true
+unfolding allowed
+index-header-kept = refl
+
+-- a range of so many bytes is used where there are any
+pub sized-used : (size : ℕ) → isUsed (sized size) ≡ not (eqb size 0)
+sized-used size = by (eqb size 0)
+  where
+    by : (none : Bool) → isUsed (cond none Unused (Reaches size AnyWindow)) ≡ not none
+    by true = refl
+    by false = refl
 
 -- row 13
 abbrev pub topology-tests : List ℕ → List Test
@@ -73,7 +95,7 @@ module _ (w : Windows) (rest : List ℕ) where
   pub pipe-tested : {x : ℕ} → x ≡ wholeHeader rest 0x7A000004 → x ≡ 0 → getD rest 4 0 < 2 ^ 32 → getD rest 5 0 < 2 ^ 32
       → answered (pipe-bits rest) (pipe-behind w rest) ≡ wrongOf w pipeRow rest First
   unfolding content tested bitWrong allowed allowedAt allowedOf masksOf rows theRow groupSize inGroup
-      valueRules ruleOf valueWrong usesByRow accessOf accessAt rangeWrong addressAt
+      valueRules ruleOf highWrong valueWrongOf valueWrong usesByRow accessOf accessAt usedHighOf rangeWrong addressAt
   pipe-tested e z fourth fifth =
       sym (whole-decides pipe-row w rest First e z ∙ rw (head-is rest _ e z, any-dword _ fourth, any-dword _ fifth))
 
@@ -81,23 +103,38 @@ module _ (w : Windows) (rest : List ℕ) where
   unfolding tested rows theRow groupSize inGroup usesByRow accessOf accessAt rangeWrong
   no-range e = rw (eq-eqb _ _ e)
 
-  pub pipe-unsynced : postSync rest ≡ 0 → firstCoded ValueBroken (valueWrong pipeRow rest) 0 6 ≡ pipe-behind w rest
-  unfolding numberOf
-  pipe-unsynced e = searched-last ValueBroken (valueWrong pipeRow rest) 0 6 ∙ ap (tested 12 (valueWrong pipeRow rest) 0 6) (sym (no-range e))
+  pub pipe-unsynced : postSync rest ≡ 0 → answered (unsynced-tests rest) (firstCoded ValueBroken (valueWrong pipeRow rest) 0 6) ≡ pipe-behind w rest
+  unfolding numberOf bitWrong allowedAt allowedOf masksOf rows theRow groupSize inGroup usesByRow accessOf usedHighOf
+  pipe-unsynced e =
+      rw (eq-eqb _ _ e)
+      (ap (cond (not (allowed (getD rest 3 0) 0x0000FFFF)) 2563)
+      (searched-last ValueBroken (valueWrong pipeRow rest) 0 6 ∙ ap (tested 12 (valueWrong pipeRow rest) 0 6) (sym (no-range e))))
 
-  pub pipe-synced : (postSync rest ≡ 0 → ⊥) → answered (pipe-tests w rest) 0 ≡ pipe-behind w rest
-  unfolding tested rows theRow groupSize inGroup valueRules ruleOf valueWrong usesByRow accessOf accessAt rangeWrong addressAt
-  pipe-synced n = rw (ne-eqb _ _ n)
+  pub pipe-synced : (postSync rest ≡ 0 → ⊥) → getD rest 3 0 < 2 ^ 32 → answered (pipe-tests w rest) 0 ≡ pipe-behind w rest
+  unfolding tested bitWrong allowedAt allowedOf rows theRow groupSize inGroup
+      valueRules ruleOf highWrong valueWrongOf valueWrong usesByRow accessOf accessAt usedHighOf rangeWrong addressAt
+  pipe-synced n third = rw (ne-eqb _ _ n, any-dword _ third, or-false (not (canonical (getD rest 3 0))))
 
-  pub index-buffer-tested : {x : ℕ} → x ≡ wholeHeader rest 0x780A0003 → x ≡ 0 → getD rest 2 0 < 2 ^ 32 → getD rest 4 0 < 2 ^ 32
+  pub index-buffer-tested : {x : ℕ} → x ≡ wholeHeader rest 0x780A0003 → x ≡ 0 → getD rest 2 0 < 2 ^ 32 → getD rest 3 0 < 2 ^ 32 → getD rest 4 0 < 2 ^ 32
       → answered (index-buffer-tests w rest) 0 ≡ wrongOf w indexBufferRow rest First
-  unfolding content tested bitWrong allowed allowedAt allowedOf masksOf rows theRow groupSize inGroup
-      valueRules ruleOf valueWrong usesByRow accessOf accessAt rangeWrong addressAt
-  index-buffer-tested e z second fourth =
-      rw Bool·not-not
-      (sym (whole-decides index-buffer-row w rest First e z ∙ rw (head-is rest _ e z, any-dword _ second, any-dword _ fourth)))
+  unfolding content tested bitWrong allowedAt allowedOf masksOf rows theRow groupSize inGroup
+      valueRules ruleOf highWrong valueWrongOf valueWrong usesByRow accessOf accessAt usedHighOf rangeWrong addressAt
+  index-buffer-tested e z second third fourth =
+      let used = not (eqb (getD rest 4 0) 0) in
+      rw (Bool·not-not (used && not (canonical (getD rest 3 0))), Bool·not-not)
+      (sym
+      (whole-decides index-buffer-row w rest First e z
+      ∙ rw (
+        head-is rest _ e z,
+        index-header-kept,
+        any-dword _ second,
+        any-dword _ fourth,
+        sized-used (getD rest 4 0),
+        used-or-kept used (getD rest 3 0) 0xFFFF third,
+        or-false (used && not (canonical (getD rest 3 0))),
+      )))
 
   pub topology-tested : {x : ℕ} → x ≡ wholeHeader rest 0x784B0000 → x ≡ 0 → answered (topology-tests rest) 0 ≡ wrongOf w topologyRow rest First
   unfolding content tested bitWrong allowed allowedAt allowedOf masksOf rows theRow groupSize inGroup
-      valueRules ruleOf valueWrong usesByRow accessOf accessAt rangeWrong
+      valueRules ruleOf highWrong valueWrongOf valueWrong usesByRow accessOf accessAt usedHighOf rangeWrong
   topology-tested e z = sym (whole-decides topology-row w rest First e z ∙ rw (head-is rest _ e z))

@@ -1,6 +1,6 @@
 // Rows 7 to 17, the commands of type 3, in the table's order: each row's rules in the order of their numbers, beside the words of document 01 and of the requests.
 ghost use mathlib.Core.Path.{_≡_};
-ghost use mathlib.Core.Bool.{true, not, false};
+ghost use mathlib.Core.Bool.{true, not, false, cond, _&&_};
 ghost use mathlib.Core.List.{[], _∷_};
 ghost use Prim.Native.Nat.{_+_, _*_, _%_, _≤_, _<_, _-_, _^_};
 ghost use lib.ListN.{length, getD};
@@ -8,8 +8,8 @@ ghost use Rattle.rules.specs.declared.Level.the-variants.{First};
 ghost use Rattle.rules.specs.declared.Reason.the-variants.{BitNotAllowed, ValueBroken};
 ghost use Rattle.rules.specs.Words.{bit, allowed};
 ghost use Rattle.rules.specs.Refusals.{batchWindow, refuseFound};
-ghost use Rattle.rules.specs.Commands.{pipeRow, selectRow, baseRow, indexBufferRow, topologyRow, viewportRow, colourRow, primitiveRow, blendRow, rowOf, vertexBuffersRow, vertexElementsRow};
-ghost use Rattle.rules.specs.Uses.{postSync};
+ghost use Rattle.rules.specs.Commands.{anyDword, pipeRow, selectRow, baseRow, indexBufferRow, topologyRow, viewportRow, colourRow, primitiveRow, blendRow, rowOf, vertexBuffersRow, vertexElementsRow};
+ghost use Rattle.rules.specs.Uses.{postSync, canonical, usedHighOf};
 ghost use Rattle.rules.specs.Values.{valueWrong, componentsWrong};
 ghost use Rattle.plain_mi.specs.Plain.{coded, firstCoded, firstBy, wrongOf, bareOf, noWindows, cleanFrom, Groups, GroupAt};
 ghost use Rattle.plain_3d.specs.Stray.{strayFrom};
@@ -20,6 +20,8 @@ ghost use Rattle.looks.specs.Looks.{contentOf};
 use crate::codes::known_format;
 use formats::known_topology;
 use plain_mi::heads::groups_header;
+use plain_mi::heads::high_kept;
+use plain_mi::heads::high_right;
 use plain_mi::heads::length_by_field;
 use plain_mi::heads::other_header;
 use plain_mi::heads::sized_fits;
@@ -33,6 +35,7 @@ use plain_mi::numbers::at;
 use rules::Windows;
 use words::allowed;
 use words::dwords::address_of;
+use words::dwords::canonical;
 use words::holds;
 
 // 7: PIPE_CONTROL.
@@ -52,16 +55,19 @@ pub fn pipe(w: Windows, rest: &[u32]) -> usize
     if !allowed(rest[2], 0xFFFF_FFFC) {
         return at(BIT, 2);
     }
-    if !allowed(rest[3], 0x0000_FFFF) {
-        return at(BIT, 3);
-    }
-    // "post-sync is dword 1 bits 15:14"
+    // "post-sync is dword 1 bits 15:14": without it the address is not used
     if rest[1] / 0x4000 % 4 == 0 {
+        if !allowed(rest[3], 0x0000_FFFF) {
+            return at(BIT, 3);
+        }
         return pipe_unsynced(rest);
     }
-    // 12: "else the address is a multiple of 8"
+    // 12: "else the address is a multiple of 8", "the high dword of every address that is used must be canonical"
     if rest[2] % 8 != 0 {
         return at(VALUE, 2);
+    }
+    if !canonical(rest[3]) {
+        return at(VALUE, 3);
     }
     // 13: "7 with post-sync (8) in scratch"
     if !holds(w.scratch, address_of(rest[2], rest[3]), 8) {
@@ -112,20 +118,93 @@ pub fn base(rest: &[u32]) -> usize
     if head != NOTHING {
         return head;
     }
-    // 10: "dwords 1, 4, 6, 8, 10 allow FFFFF7F1h; 2, 5, 7, 9, 11 allow 0000FFFFh; 3 allows 007F0000h; 12 to 15 allow FFFFF001h"
-    let first = four_bits(rest, 0, 0x6101_000E, 0xFFFF_F7F1, 0x0000_FFFF, 0x007F_0000);
+    let bit = base_bits(rest);
+    if bit != NOTHING {
+        return bit;
+    }
+    base_values(rest)
+}
+
+// 10: "dwords 1, 4, 6, 8, 10 allow FFFFF7F1h; 2, 5, 7, 9, 11 allow 0000FFFFh", where their base is not used; "3 allows 007F0000h; 12 to 15 allow
+// FFFFF001h".
+fn base_bits(rest: &[u32]) -> usize
+    requires { ⌜ (16 ≤ length (now rest)) × (getD (now rest) 0 0 ≡ 0x6101000E) ⌝ }
+    ensures { λ r. ⌜ r ≡ firstCoded BitNotAllowed (bitWrong baseRow (now (rest .entry))) 0 16 ⌝ }
+{
+    let first = four_bits(
+        rest,
+        0,
+        0x6101_000E,
+        0xFFFF_F7F1,
+        high_mask(rest[1]),
+        0x007F_0000,
+    );
     if first != NOTHING {
         return first;
     }
-    let second = four_bits(rest, 4, 0xFFFF_F7F1, 0x0000_FFFF, 0xFFFF_F7F1, 0x0000_FFFF);
+    let second = four_bits(
+        rest,
+        4,
+        0xFFFF_F7F1,
+        high_mask(rest[4]),
+        0xFFFF_F7F1,
+        high_mask(rest[6]),
+    );
     if second != NOTHING {
         return second;
     }
-    let third = four_bits(rest, 8, 0xFFFF_F7F1, 0x0000_FFFF, 0xFFFF_F7F1, 0x0000_FFFF);
+    let third = four_bits(
+        rest,
+        8,
+        0xFFFF_F7F1,
+        high_mask(rest[8]),
+        0xFFFF_F7F1,
+        high_mask(rest[10]),
+    );
     if third != NOTHING {
         return third;
     }
     four_bits(rest, 12, 0xFFFF_F001, 0xFFFF_F001, 0xFFFF_F001, 0xFFFF_F001)
+}
+
+// The bits of a base's high dword, by its low dword: "where their modify bit is set" 12 looks at it.
+fn high_mask(low: u32) -> u32
+    ensures { λ r. ⌜ r ≡ cond (bit low 0) anyDword 0x0000FFFF ⌝ }
+{
+    if low % 2 == 1 {
+        0xFFFF_FFFF
+    } else {
+        0x0000_FFFF
+    }
+}
+
+// 12: "The base addresses in STATE_BASE_ADDRESS are included where their modify bit is set".
+fn base_values(rest: &[u32]) -> usize
+    requires { ⌜ 16 ≤ length (now rest) ⌝ }
+    ensures { λ r. ⌜ r ≡ firstCoded ValueBroken (valueWrong baseRow (now (rest .entry))) 0 16 ⌝ }
+{
+    if !base_right(rest[1], rest[2]) {
+        return at(VALUE, 2);
+    }
+    if !base_right(rest[4], rest[5]) {
+        return at(VALUE, 5);
+    }
+    if !base_right(rest[6], rest[7]) {
+        return at(VALUE, 7);
+    }
+    if !base_right(rest[8], rest[9]) {
+        return at(VALUE, 9);
+    }
+    if !base_right(rest[10], rest[11]) {
+        return at(VALUE, 11);
+    }
+    NOTHING
+}
+
+fn base_right(low: u32, high: u32) -> bool
+    ensures { λ r. ⌜ r ≡ not (bit low 0 && not (canonical high)) ⌝ }
+{
+    high_right(low % 2 == 1, high)
 }
 
 // The first of the four dwords from k on with a bit that its mask does not allow.
@@ -162,6 +241,17 @@ pub fn vertex_buffers(w: Windows, rest: &[u32]) -> usize
     buffers(w, &rest[..length])
 }
 
+// "bit 13 clear, bit 14 set and size not 0": the address of the buffer at k is used.
+fn buffer_used(d: &[u32], k: usize) -> bool
+    requires { ⌜ GroupAt 4 (now d) k ⌝ }
+    ensures { λ r. ⌜ r ≡ usedHighOf vertexBuffersRow (now (d .entry)) (k + 2) 3 ⌝ }
+{
+    if d[k] / 0x2000 % 4 != 2 {
+        return false;
+    }
+    d[k + 3] != 0
+}
+
 // 10: "n of FC7F6FFFh, address free, free", of the buffer at k.
 fn buffer_bit(d: &[u32], k: usize) -> usize
     requires { ⌜ GroupAt 4 (now d) k ⌝ }
@@ -170,13 +260,13 @@ fn buffer_bit(d: &[u32], k: usize) -> usize
     if !allowed(d[k], 0xFC7F_6FFF) {
         return at(BIT, k);
     }
-    if !allowed(d[k + 2], 0x0000_FFFF) {
+    if !high_kept(buffer_used(d, k), d[k + 2]) {
         return at(BIT, k + 2);
     }
     NOTHING
 }
 
-// 12: "index (31:26) at most 32, pitch (11:0) at most 2,048".
+// 12: "index (31:26) at most 32, pitch (11:0) at most 2,048", and the high dword of an address that is used.
 fn buffer_value(d: &[u32], k: usize) -> usize
     requires { ⌜ GroupAt 4 (now d) k ⌝ }
     ensures { λ r. ⌜ r ≡ firstCoded ValueBroken (valueWrong vertexBuffersRow (now (d .entry))) k 4 ⌝ }
@@ -186,6 +276,9 @@ fn buffer_value(d: &[u32], k: usize) -> usize
     }
     if 2048 < d[k] % 0x1000 {
         return at(VALUE, k);
+    }
+    if !high_right(buffer_used(d, k), d[k + 2]) {
+        return at(VALUE, k + 2);
     }
     NOTHING
 }
@@ -201,15 +294,24 @@ fn buffer_fits(w: Windows, d: &[u32], k: usize) -> bool
     sized_fits(w, d[k + 1], d[k + 2], d[k + 3])
 }
 
-// Whether nothing is wrong with the buffer at k.
+// Whether nothing is wrong with the buffer at k: its flags, and its address by whether it is used.
 fn buffer_good(w: Windows, d: &[u32], k: usize) -> bool
     requires { ⌜ GroupAt 4 (now d) k ⌝ }
     ensures { λ r. ⌜ r ≡ cleanFrom w vertexBuffersRow (now (d .entry)) k 4 ⌝ }
 {
-    if buffer_bit(d, k) != NOTHING {
+    if !allowed(d[k], 0xFC7F_6FFF) {
         return false;
     }
-    if buffer_value(d, k) != NOTHING {
+    if 32 < d[k] / 0x400_0000 {
+        return false;
+    }
+    if 2048 < d[k] % 0x1000 {
+        return false;
+    }
+    if !buffer_used(d, k) {
+        return allowed(d[k + 2], 0x0000_FFFF);
+    }
+    if !canonical(d[k + 2]) {
         return false;
     }
     buffer_fits(w, d, k)
@@ -429,16 +531,21 @@ pub fn index_buffer(w: Windows, rest: &[u32]) -> usize
     if head != NOTHING {
         return head;
     }
+    // "with size not 0": the address is used
+    let used = rest[4] != 0;
     // 10: "37Fh, address free, free"
     if !allowed(rest[1], 0x0000_037F) {
         return at(BIT, 1);
     }
-    if !allowed(rest[3], 0x0000_FFFF) {
+    if !high_kept(used, rest[3]) {
         return at(BIT, 3);
     }
-    // 12: "format (9:8) not 3"
+    // 12: "format (9:8) not 3", and the high dword of an address that is used
     if rest[1] / 0x100 % 4 == 3 {
         return at(VALUE, 1);
+    }
+    if !high_right(used, rest[3]) {
+        return at(VALUE, 3);
     }
     // 13: "row 12 likewise with size not 0"
     if !sized_fits(w, rest[2], rest[3], rest[4]) {

@@ -18,7 +18,7 @@ use Rattle.rules.specs.Addresses.{rangeWrong}
 use Rattle.rules.proofs.Searching.{either, and-left, and-right}
 use Rattle.rules.proofs.Unique.{above-zero}
 use Rattle.plain_mi.specs.Plain.{firstCoded, freeFrom, faulty, cleanFrom}
-use Rattle.plain_mi.proofs.Bare.{no-range}
+use Rattle.plain_mi.proofs.Bare.{no-address, no-range}
 use Rattle.plain_mi.proofs.Coding.{is-first, not-first, none-left}
 
 -- free of faults is: the number of the first fault is 0
@@ -48,7 +48,7 @@ together false false true x y z = ap (λ t. x && t) (and-false y) ∙ and-false 
 together false false false x y z = refl
 
 module _ (w : Windows) (r : ℕ) (d : List ℕ) where
-  all-three : (k n : ℕ)
+  pub all-three : (k n : ℕ)
       → (freeFrom (bitWrong r d) k n && (freeFrom (valueWrong r d) k n && freeFrom (rangeWrong w r d) k n)) ≡ cleanFrom w r d k n
   unfolding freeFrom faulty
   all-three k zero = refl
@@ -59,7 +59,7 @@ module _ (w : Windows) (r : ℕ) (d : List ℕ) where
   -- a row with no address
   pub no-ranges : accessOf r ≡ noUse → (k n : ℕ) → freeFrom (rangeWrong w r d) k n ≡ true
   unfolding freeFrom
-  no-ranges e k n = ap (λ (bad : ℕ → Bool). freeFrom bad k n) (no-range r e w d) ∙ never k n
+  no-ranges e k n = ap (λ (bad : ℕ → Bool). freeFrom bad k n) (no-range r (no-address r e) w d) ∙ never k n
     where
       never : (k n : ℕ) → freeFrom (λ (i : ℕ). false) k n ≡ true
       never k zero = refl

@@ -17,10 +17,11 @@ use Rattle.rules.specs.Words.{field, cleared, allowed, inGroup}
 use Rattle.rules.specs.Commands.{noField, exactly, Row, rows, rowCount, rowFrom, theRow, keyOf, rowOf, lengthOf, lengthRight}
 use Rattle.rules.specs.Uses.{noUse, accessOf, accessAt}
 use Rattle.rules.specs.Masks.{headerMask, masksOf, allowedOf, allowedAt, bitWrong}
-use Rattle.rules.specs.Values.{noRule, ruleOf, valueWrong}
+use Rattle.rules.specs.Values.{noRule, ruleOf, highWrong, valueWrongOf, valueWrong}
 use Rattle.rules.specs.Addresses.{rangeWrong}
 use Rattle.rules.specs.Step.{nested}
 use Rattle.rules.proofs.Searching.{either, never-both}
+use Rattle.rules.proofs.Used.{header-no-high}
 use Rattle.plain_mi.specs.Plain.{wrongOf, headOf, otherHeader}
 use Rattle.plain_mi.proofs.Lengths.{field-is, length-says, past-says, content-says}
 use Rattle.plain_mi.proofs.Content.{header-says}
@@ -54,7 +55,7 @@ within-mask word mask e = omega (arith, and-le-r word mask, eqb-true (bitAnd wor
 module _ (r : ℕ) (d : List ℕ) where
   pub header-bits : bitWrong r d 0 ≡ not (allowed (getD d 0 0) (headerMask (theRow r)))
   unfolding bitWrong allowedAt allowedOf masksOf inGroup
-  header-bits = refl
+  header-bits = rw (header-no-high r d 0)
 
   -- a header in a row that keeps its mask lies between the row's key and the mask; so one that cannot lie there has a wrong bit
   pub not-between : r < rowCount → rowOf (getD d 0 0) ≡ r
@@ -149,6 +150,6 @@ other-exact w r rest level f known t q n =
 pub one-dword : (w : Windows) (r : ℕ) (rest : List ℕ) (level : Level) → theRow r .total ≡ noField → ruleOf r ≡ noRule
     → accessOf r ≡ noUse
     → nested r level ≡ false → 0 < length rest → wrongOf w r rest level ≡ cond (bitWrong r rest 0) 2560 0
-unfolding lengthRight lengthOf content tested bitWrong allowedAt allowedOf valueWrong accessAt rangeWrong
+unfolding lengthRight lengthOf content tested bitWrong allowedAt allowedOf inGroup highWrong valueWrongOf valueWrong accessAt rangeWrong
 one-dword w r (x ∷ rest) level t rule uses up h =
-    whole w r (x ∷ rest) level (rw t) 1 (rw t) h ∙ rw (up, rule, uses)
+    whole w r (x ∷ rest) level (rw t) 1 (rw t) h ∙ rw (up, header-no-high r (x ∷ []) 0, header-no-high r (x ∷ rest) 0, rule, uses)

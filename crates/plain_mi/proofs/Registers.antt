@@ -1,8 +1,8 @@
 -- Rows 5 and 6, which differ in their header and in where their address may lie.
 -- Assumes nothing.
-use Prim.Native.Nat.{ℕ, _+_, _*_, _%_, _^_, _≤_}
+use Prim.Native.Nat.{ℕ, _+_, _%_, _^_, _≤_, _<_}
 use mathlib.Core.Path.{_≡_, refl, sym, ap, _∙_}
-use mathlib.Core.Bool.{Bool, cond, not}
+use mathlib.Core.Bool.{Bool, cond, not, or-false}
 use mathlib.Core.List.{List, [], _∷_}
 use mathlib.Core.Logic.{⊎-elim}
 use lib.ListN.{length, getD}
@@ -19,12 +19,13 @@ use Rattle.rules.specs.Refusals.{numberOf}
 use Rattle.rules.specs.Windows.{fits}
 use Rattle.rules.specs.Formats.{knownRegister}
 use Rattle.rules.specs.Commands.{loadRegisterRow, storeRegisterRow, rows, theRow, rowOf, groupSize}
-use Rattle.rules.specs.Uses.{usesByRow, accessOf, accessAt, addressAt}
+use Rattle.rules.specs.Uses.{usesByRow, accessOf, accessAt, pairAddress, addressAt, canonical, usedHighOf}
 use Rattle.rules.specs.Masks.{masksOf, allowedOf, allowedAt, bitWrong}
-use Rattle.rules.specs.Values.{valueRules, ruleOf, valueWrong}
+use Rattle.rules.specs.Values.{valueRules, ruleOf, highWrong, valueWrongOf, valueWrong}
 use Rattle.rules.specs.Addresses.{rangeWrong}
 use Rattle.rules.proofs.Searching.{either}
 use Rattle.plain_mi.specs.Plain.{wrongOf, wholeHeader, orThen, registerOf}
+use Rattle.rules.proofs.Used.{any-dword}
 use Rattle.plain_mi.proofs.Lengths.{listed}
 use Rattle.plain_mi.proofs.Tests.{Test, answered, tested, content, searched, searched-last, passed, stopped}
 use Rattle.plain_mi.proofs.Whole.{WholeRow, whole-refuses, head-is, head-fits, whole-decides, first-answers, then-answers, both-zero}
@@ -38,8 +39,8 @@ abbrev pub register-tests : List ℕ → List Test
 register-tests d =
     (not (allowed (getD d 1 0) 0x007FFFFC), 2561)
     ∷ (not (allowed (getD d 2 0) 0xFFFFFFFC), 2562)
-    ∷ (not (allowed (getD d 3 0) 0x0000FFFF), 2563)
     ∷ (not (knownRegister (getD d 1 0)), 3073)
+    ∷ (not (canonical (getD d 3 0)), 3075)
     ∷ []
 
 module _ (d : List ℕ) (header : ℕ) where
@@ -55,9 +56,14 @@ module _ (d : List ℕ) (header : ℕ) where
     unfolding registerOf
     header-says n = e ∙ sym (first-answers _ _ (λ z. n (e ∙ z)))
 
-    pub register-tested : x ≡ 0 → answered (register-tests d) 0 ≡ registerOf d header
-    unfolding tested bitWrong allowedAt allowedOf masksOf rows theRow groupSize inGroup valueRules ruleOf valueWrong
-    register-tested z = sym (register-both ∙ then-answers _ _ (sym e ∙ z))
+    pub register-tested : x ≡ 0 → getD d 3 0 < 2 ^ 32 → answered (register-tests d) 0 ≡ registerOf d header
+    unfolding tested bitWrong allowedAt allowedOf masksOf rows theRow groupSize inGroup
+        valueRules ruleOf highWrong valueWrongOf valueWrong usesByRow accessOf usedHighOf
+    register-tested z third =
+        sym
+        (register-both
+        ∙ then-answers _ _ (sym e ∙ z)
+        ∙ rw (any-dword (getD d 3 0) third, or-false (not (canonical (getD d 3 0)))))
 
 -- the row r and its header: of the dwords of such a command, 10 and 12 are those of row 5, and its address, of four bytes, lies within these windows
 pub record RegisterRow (w : Windows) (r header : ℕ) (within : Within) : Type 0 where
@@ -68,12 +74,12 @@ pub record RegisterRow (w : Windows) (r header : ℕ) (within : Within) : Type 0
 
 pub stores : (w : Windows) → RegisterRow w storeRegisterRow 0x12000002 ScratchOnly
 unfolding rows theRow groupSize inGroup content tested allowed masksOf allowedOf allowedAt bitWrong
-    valueRules ruleOf valueWrong usesByRow accessOf accessAt addressAt rangeWrong
+    valueRules ruleOf highWrong valueWrongOf valueWrong usesByRow accessOf accessAt usedHighOf addressAt rangeWrong
 stores w = record { one = record { known = lit≤ tt; total = refl; key = refl; free = refl }; long = refl; same = λ rest e. rw e }
 
 pub loads : (w : Windows) → RegisterRow w loadRegisterRow 0x14800002 AnyWindow
 unfolding rows theRow groupSize inGroup content tested allowed masksOf allowedOf allowedAt bitWrong
-    valueRules ruleOf valueWrong usesByRow accessOf accessAt addressAt rangeWrong
+    valueRules ruleOf highWrong valueWrongOf valueWrong usesByRow accessOf accessAt usedHighOf addressAt rangeWrong
 loads w = record { one = record { known = lit≤ tt; total = refl; key = refl; free = refl }; long = refl; same = λ rest e. rw e }
 
 -- what the code has asked is 8 to 10 and 12: they decide, or what stands behind them does
@@ -106,7 +112,7 @@ module _ {w : Windows} {r header : ℕ} {within : Within} (g : RegisterRow w r h
           (λ m. stopped 12 (lit≤ tt) (valueWrong storeRegisterRow rest) 1 3 m (λ y. absurd (y refl)))
           ∙ behind z
 
-  pub addressed : x ≡ 0 → {fit : Bool} (taken : Bool) → fit ≡ fits w within (getD rest 2 0 + 2 ^ 32 * getD rest 3 0) 4
+  pub addressed : x ≡ 0 → {fit : Bool} (taken : Bool) → fit ≡ fits w within (pairAddress (getD rest 2 0) (getD rest 3 0)) 4
       → not fit ≡ taken
       → cond taken 3330 0 ≡ wrongOf w r rest First
   unfolding addressAt

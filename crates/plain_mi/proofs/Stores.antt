@@ -1,9 +1,9 @@
 -- Row 4: the store of four bytes or of eight, and the header that is neither.
 -- Assumes nothing.
-use Prim.Native.Nat.{ℕ, _+_, _*_, _/_, _%_, _^_, _≤_, _<_}
+use Prim.Native.Nat.{ℕ, _/_, _%_, _^_, _≤_, _<_}
 use native.Mathlib.Omega.{arith}
 use mathlib.Core.Path.{_≡_, refl, sym, ap, _∙_}
-use mathlib.Core.Bool.{Bool, true, false, cond, not}
+use mathlib.Core.Bool.{Bool, true, false, cond, not, or-false}
 use mathlib.Core.List.{List, [], _∷_}
 use lib.ListN.{length, getD}
 use lib.Bits.{bitAnd, and-mod, and-le-r}
@@ -12,19 +12,17 @@ use borrow.Author.Tests.{eqb-true, eqb-false, not-false}
 use Rattle.rules.specs.declared.Windows.{Windows}
 use Rattle.rules.specs.declared.Within.the-variants.{ScratchOnly}
 use Rattle.rules.specs.declared.Level.the-variants.{First}
-use Rattle.rules.specs.declared.Reason.the-variants.{BitNotAllowed}
 use Rattle.rules.specs.Words.{bit, allowed, inGroup}
-use Rattle.rules.specs.Refusals.{numberOf}
 use Rattle.rules.specs.Windows.{fits}
 use Rattle.rules.specs.Commands.{storeRow, rows, theRow, rowOf, groupSize, lengthOf, lengthRight}
-use Rattle.rules.specs.Uses.{usesByRow, accessOf, accessAt, addressAt}
+use Rattle.rules.specs.Uses.{usesByRow, accessOf, accessAt, pairAddress, addressAt, canonical, usedHighOf}
 use Rattle.rules.specs.Masks.{masksOf, allowedOf, allowedAt, bitWrong}
-use Rattle.rules.specs.Values.{valueRules, ruleOf, valueWrong}
+use Rattle.rules.specs.Values.{valueRules, ruleOf, highWrong, valueWrongOf, valueWrong}
 use Rattle.rules.specs.Addresses.{rangeWrong}
-use Rattle.plain_mi.specs.Plain.{firstCoded, wrongOf, otherHeader}
-use Rattle.plain_mi.proofs.Tests.{Test, answered, tested, content, searched-last, passed, stopped, Own, own-answer}
+use Rattle.plain_mi.specs.Plain.{wrongOf, otherHeader}
+use Rattle.plain_mi.proofs.Tests.{Test, answered, tested, content, Own}
 use Rattle.plain_mi.proofs.Headers.{header-bits, not-between, other}
-use Rattle.plain_mi.proofs.Dwords.{any-dword}
+use Rattle.rules.proofs.Used.{any-dword}
 
 -- a header in this row that keeps its mask and whose field is right is one of the two
 kept : (h : ℕ) → bitAnd h 0x102000FF ≡ h → h % 2 ^ 21 ≤ 255
@@ -52,48 +50,41 @@ other-store w rest q n m f t =
     let k = kept (getD rest 0 0) (eqb-true _ _ (not-false _ (sym (header-bits storeRow rest) ∙ b))) in
     two-headers (getD rest 0 0) (bit (getD rest 0 0) 21) refl low high k (e ∙ t) n m))
 
--- 10 of either store, as the code asks it
-bits-of : (d : List ℕ) → firstCoded BitNotAllowed (bitWrong storeRow d) 1 2 ≡ tested 10 (bitWrong storeRow d) 1 2 0
-unfolding numberOf
-bits-of d = searched-last BitNotAllowed (bitWrong storeRow d) 1 2
-
-pub store-bits : (d : List ℕ) → cond (not (allowed (getD d 1 0) 0xFFFFFFFC)) 2561 (cond (not (allowed (getD d 2 0) 0x0000FFFF)) 2562 0)
-    ≡ firstCoded BitNotAllowed (bitWrong storeRow d) 1 2
-unfolding tested bitWrong allowedAt allowedOf masksOf rows theRow groupSize inGroup
-store-bits d = sym (bits-of d)
-
--- the two stores: what stands behind 10
+-- the tests of the two stores
 abbrev pub four-tests : Windows → List ℕ → List Test
-four-tests w d = (not (fits w ScratchOnly (getD d 1 0 + 2 ^ 32 * getD d 2 0) 4), 3329) ∷ []
+four-tests w d =
+    (not (allowed (getD d 1 0) 0xFFFFFFFC), 2561)
+    ∷ (not (canonical (getD d 2 0)), 3074)
+    ∷ (not (fits w ScratchOnly (pairAddress (getD d 1 0) (getD d 2 0)) 4), 3329)
+    ∷ []
 
 abbrev pub eight-tests : Windows → List ℕ → List Test
 eight-tests w d =
-    (not (eqb (getD d 1 0 % 8) 0), 3073) ∷ (not (fits w ScratchOnly (getD d 1 0 + 2 ^ 32 * getD d 2 0) 8), 3329) ∷ []
+    (not (allowed (getD d 1 0) 0xFFFFFFFC), 2561)
+    ∷ (not (eqb (getD d 1 0 % 8) 0), 3073)
+    ∷ (not (canonical (getD d 2 0)), 3074)
+    ∷ (not (fits w ScratchOnly (pairAddress (getD d 1 0) (getD d 2 0)) 8), 3329)
+    ∷ []
 
--- a store of n dwords, with this answer behind 10
+-- a store of n dwords, with this answer
 abbrev pub Store : Windows → List ℕ → ℕ → ℕ → Type 0
-Store w rest n later = Own w storeRow rest First n (tested 10 (bitWrong storeRow rest) 1 2 later)
+Store w rest n answer = Own w storeRow rest First n answer
 
-module _ (w : Windows) (rest : List ℕ) where
-  pub four-bytes : getD rest 0 0 ≡ 0x10000002 → getD rest 3 0 < 2 ^ 32 → Store w rest 4 (answered (four-tests w rest) 0)
+module _ (w : Windows) (rest : List ℕ) (second : getD rest 2 0 < 2 ^ 32) (third : getD rest 3 0 < 2 ^ 32) where
+  pub four-bytes : getD rest 0 0 ≡ 0x10000002 → Store w rest 4 (answered (four-tests w rest) 0)
   unfolding content tested bitWrong allowed allowedAt allowedOf masksOf rows theRow groupSize inGroup
-      valueRules ruleOf valueWrong lengthRight lengthOf usesByRow accessOf accessAt rangeWrong addressAt
-  four-bytes e third = record { right = rw e; long = rw e; same = rw (e, any-dword _ third) }
+      valueRules ruleOf highWrong valueWrongOf valueWrong lengthRight lengthOf usesByRow accessOf accessAt usedHighOf rangeWrong addressAt
+  four-bytes e = record {
+    right = rw e;
+    long = rw e;
+    same = rw (e, any-dword _ second, any-dword _ third, or-false (not (canonical (getD rest 2 0))));
+  }
 
-  pub eight-bytes : getD rest 0 0 ≡ 0x10200003 → getD rest 3 0 < 2 ^ 32 → getD rest 4 0 < 2 ^ 32 → Store w rest 5 (answered (eight-tests w rest) 0)
+  pub eight-bytes : getD rest 0 0 ≡ 0x10200003 → getD rest 4 0 < 2 ^ 32 → Store w rest 5 (answered (eight-tests w rest) 0)
   unfolding content tested bitWrong allowed allowedAt allowedOf masksOf rows theRow groupSize inGroup
-      valueRules ruleOf valueWrong lengthRight lengthOf usesByRow accessOf accessAt rangeWrong addressAt
-  eight-bytes e third fourth = record { right = rw e; long = rw e; same = rw (e, any-dword _ third, any-dword _ fourth) }
-
--- 10 decides, or what stands behind it does
-module _ {w : Windows} {rest : List ℕ} {n : ℕ} (later : ℕ) (own : Store w rest n later) (h : n ≤ length rest) {x : ℕ}
-    (e : x ≡ firstCoded BitNotAllowed (bitWrong storeRow rest) 1 2) where
-  pub bits-refuse : (x ≡ 0 → ⊥) → x ≡ wrongOf w storeRow rest First
-  bits-refuse m =
-      e
-      ∙ bits-of rest
-      ∙ stopped 10 (lit≤ tt) (bitWrong storeRow rest) 1 2 (λ z. m (e ∙ bits-of rest ∙ z)) (λ z. absurd (z refl))
-      ∙ own-answer own h
-
-  pub bits-pass : x ≡ 0 → later ≡ wrongOf w storeRow rest First
-  bits-pass z = sym (passed 10 (lit≤ tt) (bitWrong storeRow rest) 1 2 (sym (bits-of rest) ∙ sym e ∙ z) .1) ∙ own-answer own h
+      valueRules ruleOf highWrong valueWrongOf valueWrong lengthRight lengthOf usesByRow accessOf accessAt usedHighOf rangeWrong addressAt
+  eight-bytes e fourth = record {
+    right = rw e;
+    long = rw e;
+    same = rw (e, any-dword _ second, any-dword _ third, any-dword _ fourth, or-false (not (canonical (getD rest 2 0))));
+  }

@@ -1,10 +1,10 @@
-// What rows share: the length by the field, what can be wrong with a header, a range of so many bytes.
+// What rows share: the length by the field, what can be wrong with a header, the high dword of an address, a range of so many bytes.
 ghost use mathlib.Core.Path.{_≡_};
-ghost use mathlib.Core.Bool.{not};
-ghost use Prim.Native.Nat.{_+_, _*_, _^_, _<_};
+ghost use mathlib.Core.Bool.{not, _&&_, _||_};
+ghost use Prim.Native.Nat.{_+_, _<_};
 ghost use lib.ListN.{length};
-ghost use Rattle.rules.specs.Words.{field};
-ghost use Rattle.rules.specs.Uses.{sized};
+ghost use Rattle.rules.specs.Words.{field, allowed};
+ghost use Rattle.rules.specs.Uses.{pairAddress, canonical, sized};
 ghost use Rattle.rules.specs.Addresses.{accessWrong};
 ghost use Rattle.plain_mi.specs.Plain.{otherHeader, wholeHeader, groupsHeader};
 use crate::numbers::BIT;
@@ -14,7 +14,9 @@ use crate::numbers::PAST;
 use crate::numbers::at;
 use rules::Windows;
 use windows::anywhere;
+use words::allowed;
 use words::dwords::address_of;
+use words::dwords::canonical;
 
 // "Total length is the field in bits 7:0 plus 2".
 pub fn length_by_field(header: u32) -> usize
@@ -74,9 +76,23 @@ pub fn groups_header(rest: &[u32], key: u32, size: u32, most: u32) -> usize
     NOTHING
 }
 
+// 10 of a high dword: "high dwords of addresses not used .. are as before".
+pub fn high_kept(used: bool, high: u32) -> bool
+    ensures { λ r. ⌜ r ≡ (used || allowed high 0x0000FFFF) ⌝ }
+{
+    used || allowed(high, 0x0000_FFFF)
+}
+
+// 12 of a high dword: "the high dword of every address that is used must be canonical".
+pub fn high_right(used: bool, high: u32) -> bool
+    ensures { λ r. ⌜ r ≡ not (used && not (canonical high)) ⌝ }
+{
+    !used || canonical(high)
+}
+
 // "size not 0: the range in one window".
 pub fn sized_fits(w: Windows, low: u32, high: u32, size: u32) -> bool
-    ensures { λ r. ⌜ r ≡ not (accessWrong w (low + 2 ^ 32 * high) (sized size)) ⌝ }
+    ensures { λ r. ⌜ r ≡ not (accessWrong w (pairAddress low high) (sized size)) ⌝ }
 {
     if size == 0 {
         return true;

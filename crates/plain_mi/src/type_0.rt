@@ -1,4 +1,5 @@
-// Rows 0 to 6, the commands of type 0, in the table's order: each row's rules in the order of their numbers, beside document 01's words.
+// Rows 0 to 6, the commands of type 0, in the table's order: each row's rules in the order of their numbers, beside the words of document 01 and of
+// the requests.
 ghost use mathlib.Core.Path.{_≡_};
 ghost use mathlib.Core.Bool.{cond, false};
 ghost use mathlib.Core.List.{[], _∷_};
@@ -31,6 +32,7 @@ use rules::Windows;
 use windows::anywhere;
 use words::allowed;
 use words::dwords::address_of;
+use words::dwords::canonical;
 use words::holds;
 
 // 0: MI_NOOP.
@@ -86,9 +88,6 @@ pub fn start(w: Windows, level: Level, rest: &[u32]) -> usize
     if !allowed(rest[1], 0xFFFF_FFFC) {
         return at(BIT, 1);
     }
-    if !allowed(rest[2], 0x0000_FFFF) {
-        return at(BIT, 2);
-    }
     // 11: "batch start while in a second-level batch"
     if is_nested(level) {
         return at(NESTED, 0);
@@ -96,6 +95,10 @@ pub fn start(w: Windows, level: Level, rest: &[u32]) -> usize
     // 12: "bit 8 set"
     if header / 0x100 % 2 != 1 {
         return at(VALUE, 0);
+    }
+    // 12: "the high dword of every address that is used must be canonical"
+    if !canonical(rest[2]) {
+        return at(VALUE, 2);
     }
     // 13: "row 2 target (4 bytes) in the batch window"
     if !holds(w.batch, address_of(rest[1], rest[2]), 4) {
@@ -223,20 +226,6 @@ pub fn store(w: Windows, rest: &[u32]) -> usize
     }
 }
 
-// 10: "address FFFFFFFCh, 1 or 2 free".
-fn store_bit(rest: &[u32]) -> usize
-    requires { ⌜ 3 ≤ length (now rest) ⌝ }
-    ensures { λ r. ⌜ r ≡ firstCoded BitNotAllowed (bitWrong storeRow (now (rest .entry))) 1 2 ⌝ }
-{
-    if !allowed(rest[1], 0xFFFF_FFFC) {
-        return at(BIT, 1);
-    }
-    if !allowed(rest[2], 0x0000_FFFF) {
-        return at(BIT, 2);
-    }
-    NOTHING
-}
-
 fn store_four(w: Windows, rest: &[u32]) -> usize
     requires { ⌜ (0 < length (now rest)) × (getD (now rest) 0 0 ≡ 0x10000002) ⌝ }
     ensures { λ r. ⌜ r ≡ wrongOf w storeRow (now (rest .entry)) First ⌝ }
@@ -244,9 +233,13 @@ fn store_four(w: Windows, rest: &[u32]) -> usize
     if rest.len() < 4 {
         return at(PAST, 0);
     }
-    let bit = store_bit(rest);
-    if bit != NOTHING {
-        return bit;
+    // 10: "address FFFFFFFCh, 1 or 2 free"
+    if !allowed(rest[1], 0xFFFF_FFFC) {
+        return at(BIT, 1);
+    }
+    // 12: "the high dword of every address that is used must be canonical"
+    if !canonical(rest[2]) {
+        return at(VALUE, 2);
     }
     // 13: "rows 4 (4 or 8 bytes) .. in scratch"
     if !holds(w.scratch, address_of(rest[1], rest[2]), 4) {
@@ -262,13 +255,16 @@ fn store_eight(w: Windows, rest: &[u32]) -> usize
     if rest.len() < 5 {
         return at(PAST, 0);
     }
-    let bit = store_bit(rest);
-    if bit != NOTHING {
-        return bit;
+    // 10: "address FFFFFFFCh, 1 or 2 free"
+    if !allowed(rest[1], 0xFFFF_FFFC) {
+        return at(BIT, 1);
     }
-    // 12: "an eight-byte store address is a multiple of 8"
+    // 12: "an eight-byte store address is a multiple of 8", "the high dword of every address that is used must be canonical"
     if rest[1] % 8 != 0 {
         return at(VALUE, 1);
+    }
+    if !canonical(rest[2]) {
+        return at(VALUE, 2);
     }
     // 13: "rows 4 (4 or 8 bytes) .. in scratch"
     if !holds(w.scratch, address_of(rest[1], rest[2]), 8) {
@@ -328,12 +324,12 @@ fn register_and_address(rest: &[u32], header: u32) -> usize
     if !allowed(rest[2], 0xFFFF_FFFC) {
         return at(BIT, 2);
     }
-    if !allowed(rest[3], 0x0000_FFFF) {
-        return at(BIT, 3);
-    }
-    // 12: "register is 2400h, .."
+    // 12: "register is 2400h, ..", "the high dword of every address that is used must be canonical"
     if !known_register(rest[1]) {
         return at(VALUE, 1);
+    }
+    if !canonical(rest[3]) {
+        return at(VALUE, 3);
     }
     NOTHING
 }

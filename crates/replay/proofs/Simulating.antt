@@ -21,7 +21,7 @@ use Rattle.rules.specs.declared.Outcome.the-variants.{Taken}
 use Rattle.rules.specs.Words.{bit, field, inGroup}
 use Rattle.rules.specs.Windows.{Capture, windowsOf, Inside, listed}
 use Rattle.rules.specs.Commands.{exactly, rows, theRow, lengthOf, groupSize, lengthRight}
-use Rattle.rules.specs.Uses.{addressAt}
+use Rattle.rules.specs.Uses.{addressAt, usesByRow, accessOf, usedHighOf}
 use Rattle.rules.specs.Masks.{allowedOf, masksOf, allowedAt}
 use Rattle.rules.specs.Addresses.{rangeWrong}
 use Rattle.rules.specs.Step.{headerAt, rowAt, lengthAt, dwordsAt, cursor, commandAt as walkCommand, stepOf}
@@ -161,12 +161,12 @@ module _ (c : Capture) (sound : Sound (listed (windowsOf c))) (hardware : Hardwa
 
   -- the allowed bits of the low dwords of addresses leave out the lowest two
   low-1 : (r : ℕ) → (r ≡ 2) ⊎ (r ≡ 4) → allowedAt r dwordsHere 1 % 4 ≡ 0
-  unfolding allowedOf allowedAt masksOf rows theRow groupSize inGroup
+  unfolding allowedOf allowedAt masksOf rows theRow groupSize inGroup usesByRow accessOf usedHighOf
   low-1 r (inl e) = rw e
   low-1 r (inr e) = rw e
 
   low-2 : (r : ℕ) → (r ≡ 5) ⊎ (r ≡ 6) ⊎ (r ≡ 7) → allowedAt r dwordsHere 2 % 4 ≡ 0
-  unfolding allowedOf allowedAt masksOf rows theRow groupSize inGroup
+  unfolding allowedOf allowedAt masksOf rows theRow groupSize inGroup usesByRow accessOf usedHighOf
   low-2 r (inl e) = rw e
   low-2 r (inr (inl e)) = rw e
   low-2 r (inr (inr e)) = rw e

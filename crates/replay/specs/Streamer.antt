@@ -61,9 +61,9 @@ unfoldable pub fetchedWords : Machine → ℕ → ℕ → (List ℕ → Step) �
 fetchedWords m k zero on = on []
 fetchedWords m k (suc n) on = fetched m k (λ w. fetchedWords m (k + 1) n (λ ws. on (w ∷ ws)))
 
--- two dwords make an address, taken as it stands
+-- two dwords make an address; request 3: "the address is its low 48 bits", whatever stands above them
 unfoldable pub fetchedAddress : Machine → ℕ → (ℕ → Step) → Step
-fetchedAddress m k on = fetched m k (λ low. fetched m (k + 1) (λ high. on (low + 2 ^ 32 * high)))
+fetchedAddress m k on = fetched m k (λ low. fetched m (k + 1) (λ high. on (low + 2 ^ 32 * (high % 2 ^ 16))))
 
 -- the whole word that an address names in a window of words, if it names one
 unfoldable pub wordAt : ℕ → List ℕ → ℕ → Option ℕ

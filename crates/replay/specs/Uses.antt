@@ -1,6 +1,6 @@
 -- What a command of the streamer is made of: the dwords that it uses, the words that it stores, and all that can stop it as failed. The streamer is not
 -- defined by this; the laws of proofs/Words, proofs/Failing and proofs/Doing are stated in these words.
-use Prim.Native.Nat.{ℕ, zero, suc, _+_, _-_, _*_, _/_, _^_, _≤_, _<_}
+use Prim.Native.Nat.{ℕ, zero, suc, _+_, _-_, _*_, _/_, _%_, _^_, _≤_, _<_}
 use mathlib.Core.Path.{_≡_}
 use mathlib.Core.Bool.{true, cond}
 use mathlib.Core.List.{List, [], _∷_}
@@ -30,9 +30,9 @@ unfoldable pub dwords : Machine → ℕ → ℕ → List ℕ
 dwords m k zero = []
 dwords m k (suc n) = dword m k ∷ dwords m (k + 1) n
 
--- "An address takes two dwords"
+-- "An address takes two dwords", "the address is its low 48 bits"
 abbrev pub address : Machine → ℕ → ℕ
-address m k = dword m k + 2 ^ 32 * dword m (k + 1)
+address m k = dword m k + 2 ^ 32 * (dword m (k + 1) % 2 ^ 16)
 
 -- "post-sync is dword 1 bits 15:14"
 abbrev pub postSync : Machine → ℕ

@@ -1,4 +1,4 @@
--- "Within bits are kept as a table of rows, each row the masks of its dwords": the table as the code holds it.
+-- "Allowed bits are kept as a table of rows, each row the masks of its dwords": the table as the code holds it.
 use Prim.Native.Nat.{ℕ, zero, suc, _+_, _-_}
 use mathlib.Core.List.{List, [], _∷_, _++_}
 use lib.ListN.{length, replicate}

@@ -7,6 +7,8 @@ pub mod Storing
 pub mod Moving
 pub mod Tables
 pub mod Keys
+pub mod Canonical
+pub mod Used
 pub mod Running
 pub mod Depths
 pub mod Unique

@@ -4,13 +4,14 @@ use mathlib.Core.Bool.{Bool, false, not}
 use mathlib.Core.List.{List}
 use Rattle.rules.specs.declared.Windows.{Windows}
 use Rattle.rules.specs.declared.Access.{Access}
-use Rattle.rules.specs.declared.Access.the-variants.{Unused, Reaches}
+use Rattle.rules.specs.declared.Access.the-variants.{Unused, Reaches, NoRange}
 use Rattle.rules.specs.Windows.{fits}
 use Rattle.rules.specs.Uses.{addressAt, accessAt}
 
--- "an address range does not fit": one that is used
+-- "an address range does not fit": one that is used, and asked
 abbrev pub accessWrong : Windows → ℕ → Access → Bool
 accessWrong windows address Unused = false
+accessWrong windows address NoRange = false
 accessWrong windows address (Reaches bytes allowed) = not (fits windows allowed address bytes)
 
 -- 13: "an address range does not fit"

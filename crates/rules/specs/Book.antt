@@ -5,10 +5,10 @@ use Rattle.rules.specs.Words.{allowed, some, someTwo, firstFrom, inGroup
 use Rattle.rules.specs.Refusals.{numberOf, tried, answerWith, told}
 use Rattle.rules.specs.Windows.{windowsOf, countsWrong, windowChecks, windowFault, holds, windowsWithin, fits, holdsDwords, heldAt, partOf}
 use Rattle.rules.specs.Commands.{rows, theRow, keyOf, rowFrom, rowOf, lengthOf, groupSize, lengthRight}
-use Rattle.rules.specs.Uses.{usesByRow, accessOf, accessAt, addressAt}
+use Rattle.rules.specs.Uses.{usesByRow, accessOf, accessAt, addressAt, canonical, usedHighOf}
 use Rattle.rules.specs.Masks.{masksOf, allowedOf, allowedAt, bitWrong}
 use Rattle.rules.specs.Formats.{surfaceFormats, formatBits, knownTopology, knownRegister, blendFactors, blendFunctions, namedFactor, namedFunction}
-use Rattle.rules.specs.Values.{componentsWrong, valueRules, ruleOf, valueWrong}
+use Rattle.rules.specs.Values.{componentsWrong, valueRules, ruleOf, highWrong, valueWrongOf, valueWrong}
 use Rattle.rules.specs.Addresses.{rangeWrong}
 use Rattle.rules.specs.Structures.{layoutOf, structureMask, structureBitWrong, depthWrong, colourWrong, structureValueWrong}
 use Rattle.rules.specs.Structures.{entryWrong, blendWrong, structureNowhere, structureBit, structureValue, structureChecks, readAt, verdictOf}
@@ -23,11 +23,11 @@ unfolding allowed some someTwo firstFrom inGroup numberOf tried answerWith told 
 windowsPage = 0
 
 unfoldable pub commandsPage : ℕ
-unfolding rows theRow keyOf rowFrom rowOf lengthOf groupSize lengthRight addressAt usesByRow accessOf accessAt masksOf allowedOf allowedAt bitWrong
+unfolding rows theRow keyOf rowFrom rowOf lengthOf groupSize lengthRight addressAt canonical usesByRow accessOf accessAt usedHighOf masksOf allowedOf allowedAt bitWrong
 commandsPage = 0
 
 unfoldable pub valuesPage : ℕ
-unfolding surfaceFormats formatBits knownTopology knownRegister blendFactors blendFunctions namedFactor namedFunction componentsWrong valueRules ruleOf valueWrong rangeWrong
+unfolding surfaceFormats formatBits knownTopology knownRegister blendFactors blendFunctions namedFactor namedFunction componentsWrong valueRules ruleOf highWrong valueWrongOf valueWrong rangeWrong
 valuesPage = 0
 
 unfoldable pub structuresPage : ℕ

@@ -73,9 +73,9 @@ sameAnswer a k = (eqb (a .reason) (k .reason) && eqb (a .window) (k .window)) &&
 abbrev pub gives : Run → Case → Bool
 gives run k = sameAnswer (answerOf run) k && sameWords (writtenOf run (k .before)) (k .records ++ drop (k .count) (k .before))
 
--- "ample room unless said": the walk of a case
-abbrev pub runOf : Case → Run
-runOf k = walk Unset (caseCapture (k .batch)) (roomOf (length (k .before)))
+-- "ample room unless said": the walk of a case, in these windows
+abbrev pub runIn : (List ℕ → Capture) → Case → Run
+runIn capture k = walk Unset (capture (k .batch)) (roomOf (length (k .before)))
 
 -- "proved once over a table of them": a case that is not given is named
 abbrev pub namedIf : Bool → ℕ → List ℕ → List ℕ
@@ -83,9 +83,13 @@ namedIf true number rest = rest
 namedIf false number rest = number ∷ rest
 
 -- "proved once over a table of them": the numbers of the cases that the walk does not give
+abbrev pub failingIn : (List ℕ → Capture) → List Case → List ℕ
+failingIn capture [] = []
+failingIn capture (k ∷ ks) = namedIf (gives (runIn capture k) k) (k .number) (failingIn capture ks)
+
+-- the same in the windows of document 01's cases
 abbrev pub failing : List Case → List ℕ
-failing [] = []
-failing (k ∷ ks) = namedIf (gives (runOf k) k) (k .number) (failing ks)
+failing ks = failingIn caseCapture ks
 
 -- "Marked C, .. and proved once over a table of them"
 pub cases-hold : failing cases ≡ []

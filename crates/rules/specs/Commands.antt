@@ -101,7 +101,7 @@ pub record Row : Type 0 where
   pub total : Length
   pub masks : List ℕ
 
--- a line of the table, in the order of its columns "Header" and "Within bits, by dword"
+-- a line of the table, in the order of its columns "Header" and "Allowed bits, by dword"
 abbrev row : ℕ → ℕ → Length → List ℕ → Row
 row key free total masks = record { key = key; free = free; total = total; masks = masks }
 
@@ -117,7 +117,7 @@ anyDword = 0xFFFFFFFF
 abbrev pub highDword : ℕ
 highDword = 0x0000FFFF
 
--- the table of "Commands": "Row", "Command", "Header", "Within bits, by dword"
+-- the table of "Commands": "Row", "Command", "Header", "Allowed bits, by dword"
 unfoldable pub rows : List Row
 rows =
     -- 0 MI_NOOP

@@ -16,3 +16,4 @@ pub mod Printout
 pub mod Book
 pub mod Cases
 pub mod BlendCases
+pub mod CanonicalCases

@@ -1,10 +1,11 @@
--- Document 01, "Commands": "Within bits, by dword", and the refusal 10.
+-- Document 01, "Commands": "Allowed bits, by dword", and the refusal 10.
 use Prim.Native.Nat.{ℕ, _+_}
-use mathlib.Core.Bool.{Bool, not}
+use mathlib.Core.Bool.{Bool, cond, not}
 use mathlib.Core.List.{List, _∷_}
 use lib.ListN.{getD}
 use Rattle.rules.specs.Words.{allowed}
-use Rattle.rules.specs.Commands.{Length, noField, exactly, byBit, groups, Row, theRow, spot}
+use Rattle.rules.specs.Commands.{Length, noField, exactly, byBit, groups, Row, anyDword, theRow, spot}
+use Rattle.rules.specs.Uses.{usedHighOf}
 
 -- "the field in bits 7:0": these bits, of a header that has a field
 abbrev pub fieldBits : Length → ℕ
@@ -22,12 +23,12 @@ headerMask r = r .key + (r .free + fieldBits (r .total))
 unfoldable pub masksOf : ℕ → List ℕ
 masksOf r = headerMask (theRow r) ∷ theRow r .masks
 
--- "Within bits, by dword": those of the dword k of a command, the dword j of its group. They do not depend on its dwords today; a rule that looks
--- at other dwords would stand here.
+-- "Allowed bits, by dword": those of the dword k of a command, the dword j of its group. Request 3: of the high dword of an address that is used every
+-- bit, since what is wrong with it "is 12 at that dword instead of 10"; "high dwords of addresses not used .. are as before"
 unfoldable pub allowedOf : ℕ → List ℕ → ℕ → ℕ → ℕ
-allowedOf r dwords k j = getD (masksOf r) j 0
+allowedOf r dwords k j = cond (usedHighOf r dwords k j) anyDword (getD (masksOf r) j 0)
 
--- "Within bits, by dword": by the dword's own number
+-- "Allowed bits, by dword": by the dword's own number
 unfoldable pub allowedAt : ℕ → List ℕ → ℕ → ℕ
 allowedAt r dwords k = allowedOf r dwords k (spot r k)
 

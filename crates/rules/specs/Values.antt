@@ -1,4 +1,4 @@
--- Document 01, "Value rules (12)".
+-- Document 01, "Value rules (12)", and request 3.
 use Prim.Native.Nat.{ℕ, _%_}
 use mathlib.Core.Path.{_≡_, refl}
 use mathlib.Core.Bool.{Bool, false, cond, not, _&&_, _||_}
@@ -8,7 +8,7 @@ use lib.Dec.{leb, ltb, eqb}
 use Rattle.rules.specs.Words.{bit, field, some}
 use Rattle.rules.specs.Formats.{formatBits, knownTopology, knownRegister}
 use Rattle.rules.specs.Commands.{rowCount, spot}
-use Rattle.rules.specs.Uses.{eightBytes, postSync}
+use Rattle.rules.specs.Uses.{eightBytes, postSync, canonical, usedHighOf}
 
 -- "Value rules (12)", "first such dword": a rule is asked of each dword of a command. It is given what a use is given (`Uses`), the command's dwords,
 -- the dword's own number, which dword of its group it is, and the dword itself, and answers whether the rule is broken there.
@@ -95,6 +95,14 @@ a-rule-a-row = refl
 unfoldable pub ruleOf : ℕ → Rule
 ruleOf r = getD valueRules r noRule
 
--- 12: "a value rule broken"
+-- request 3: "the high dword of every address that is used must be canonical", broken by the dword k, the dword j of its group
+unfoldable pub highWrong : ℕ → List ℕ → ℕ → ℕ → Bool
+highWrong r dwords k j = usedHighOf r dwords k j && not (canonical (getD dwords k 0))
+
+-- 12: by the dword k, the dword j of its group: "a used, non-canonical high dword is 12 at that dword" (request 3), or "a value rule broken"
+unfoldable pub valueWrongOf : ℕ → List ℕ → ℕ → ℕ → Bool
+valueWrongOf r dwords k j = highWrong r dwords k j || ruleOf r dwords k j (getD dwords k 0)
+
+-- 12: "a value rule broken", by the dword's own number
 unfoldable pub valueWrong : ℕ → List ℕ → ℕ → Bool
-valueWrong r dwords k = ruleOf r dwords k (spot r k) (getD dwords k 0)
+valueWrong r dwords k = valueWrongOf r dwords k (spot r k)

@@ -19,7 +19,7 @@ field w high low = w / 2 ^ low % 2 ^ (high + 1 - low)
 abbrev pub cleared : ℕ → ℕ → ℕ
 cleared w n = w / 2 ^ n * 2 ^ n
 
--- "Within bits": no bit of w is set outside the mask
+-- "Allowed bits": no bit of w is set outside the mask
 unfoldable pub allowed : ℕ → ℕ → Bool
 allowed w mask = eqb (bitAnd w mask) w
 

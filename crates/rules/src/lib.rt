@@ -69,10 +69,11 @@ pub enum Within {
     AnyWindow,
 }
 
-// Whether a dword is the low dword of an address that its command uses: for how many bytes, and where they may lie.
+// Whether a dword is the low dword of an address that its command uses: for how many bytes, and where they may lie; or used with no range asked.
 pub enum Access {
     Unused,
     Reaches(u64, Within),
+    NoRange,
 }
 
 // Which of the two lent windows holds a structure, and at which dword it starts there.

@@ -4,19 +4,23 @@ use Prim.Native.Nat.{ℕ, zero, suc, _+_, _-_, _*_, _/_, _%_, _≤_, _<_}
 use native.Mathlib.Nat.{mul-add-mod-self-right, mod-eq-of-lt, mod-self, div-add-mod', add-zero}
 use native.Mathlib.Omega.{arith}
 use mathlib.Core.Path.{_≡_, refl, sym, ap, _∙_, subst}
-use mathlib.Core.Bool.{Bool, true, false}
-use mathlib.Core.List.{List, []}
+use mathlib.Core.Bool.{Bool, true, false, cond, _&&_}
+use mathlib.Core.List.{List, [], _∷_}
 use lib.ListN.{length, getD}
 use lib.Dec.{eqb, leb}
 use borrow.Author.Tests.{eqb-true, ne-eqb, leb-true}
 use Rattle.rules.specs.declared.Found.the-variants.{At, Nothing}
 use Rattle.rules.specs.declared.Windows.{Windows}
-use Rattle.rules.specs.Words.{inGroup, firstFrom, firstOf}
-use Rattle.rules.specs.Commands.{rows, theRow, groupSize, rowCount}
+use Rattle.rules.specs.declared.Access.the-variants.{Unused, NoRange}
+use Rattle.rules.specs.Addresses.{accessWrong}
+use Rattle.rules.specs.Words.{bit, some, inGroup, firstFrom, firstOf}
+use Rattle.rules.specs.Commands.{baseRow, rows, theRow, groupSize, rowCount}
+use Rattle.rules.specs.Uses.{addressAt, usesByRow, accessOf}
 use Rattle.rules.specs.Masks.{masksOf}
 use Rattle.rules.proofs.Searching.{search-passes, search-stops, finds-none}
 use Rattle.rules.proofs.Tables.{each, at-each}
 use Rattle.search.specs.declared.Sought.{Sought}
+use Rattle.search.specs.declared.Sought.the-variants.{Ranges}
 use Rattle.rows.specs.Masks.{maskRows, maskTable}
 use Rattle.search.specs.Search.{wrongAt, wrong}
 
@@ -102,6 +106,15 @@ pub finds-nothing : (what : Sought) (w : Windows) (r : ℕ) (d : List ℕ) → (
     → Nothing ≡ firstOf (wrong what w r d) (length d)
 unfolding wrong
 finds-nothing what w r d never = sym (finds-none (wrong what w r d) 0 (length d) (λ k from below. never k (inGroup (groupSize r) k)))
+
+-- the bases of row 9 are used, or are not, and no range is asked of them
+pub bases-unasked : (w : Windows) (d : List ℕ) (k j : ℕ) → wrongAt Ranges w baseRow d k j ≡ false
+unfolding usesByRow accessOf wrongAt
+bases-unasked w d k j = by (some (eqb j) (1 ∷ 4 ∷ 6 ∷ 8 ∷ 10 ∷ []) && bit (getD d k 0) 0)
+  where
+    by : (t : Bool) → accessWrong w (addressAt d k) (cond t NoRange Unused) ≡ false
+    by true = refl
+    by false = refl
 
 -- what a search requires of its row, with the row's number written out
 pub written-out : {r s len : ℕ} {P Q : Type 0} → r ≡ s → (r < rowCount) × (groupSize r ≡ 0 → len ≤ 1) × P × Q

@@ -91,7 +91,7 @@ pub fn first_value(
         LOAD_REGISTER_ROW => first_wrong(values, w, LOAD_REGISTER_ROW, command, masks, formats),
         PIPE_ROW => first_wrong(values, w, PIPE_ROW, command, masks, formats),
         SELECT_ROW => Found::Nothing,
-        BASE_ROW => Found::Nothing,
+        BASE_ROW => first_wrong(values, w, BASE_ROW, command, masks, formats),
         VERTEX_BUFFERS_ROW => first_wrong(values, w, VERTEX_BUFFERS_ROW, command, masks, formats),
         VERTEX_ELEMENTS_ROW => first_wrong(values, w, VERTEX_ELEMENTS_ROW, command, masks, formats),
         INDEX_BUFFER_ROW => first_wrong(values, w, INDEX_BUFFER_ROW, command, masks, formats),
@@ -104,7 +104,7 @@ pub fn first_value(
     }
 }
 
-// The first dword that is the low dword of a range that does not fit (13), in the rows that use an address.
+// The first dword that is the low dword of a range that does not fit (13), in the rows that use an address of which a range is asked.
 pub fn first_range(
     w: Windows,
     row: usize,

@@ -145,6 +145,7 @@ pub fn access_wrong(w: Windows, address: u64, access: Access) -> bool
     match access {
         Access::Unused => false,
         Access::Reaches(bytes, allowed) => !fits(w, allowed, address, bytes),
+        Access::NoRange => false,
     }
 }
 

@@ -9,5 +9,8 @@ pub target-spec : {M : Type 1} → statement M
 unfolding addressAt
 target-spec =
     tie.close
-    (tie.spec (λ c κs. search needs) (λ c. search needs) (λ c κs. search needs) (λ c. search needs) (λ c. search needs) (λ c. search needs)
-    (λ c κs. search needs) (λ c. rw (c .dword-of .ensures, c .before .dword2 .ensures, c .before .before .dword .ensures)))
+    (tie.spec (λ c κs. search needs) (λ c κs. search needs) (λ c κs. search needs) (λ c κs. search needs)
+    (λ c.
+    let made = c .before in
+    let high = made .before in
+    rw (c .dword-of .ensures, made .address-of .ensures, high .dword2 .ensures, high .before .dword .ensures)))

@@ -14,6 +14,7 @@ use Rattle.rules.specs.Values.{valueRules, ruleOf}
 use Rattle.rules.specs.Step.{headerAt, rowAt}
 use Rattle.rules.proofs.Keys.{key-0, key-3}
 use Rattle.plain_3d.specs.Seeing.{OfType3}
+use Rattle.plain_mi.proofs.Bare.{no-address}
 use Rattle.plain_3d.proofs.Deciding.{lent, never-nested, any-level, exactly-long, sees-within, sees-bare, sees-alone, sees-at-level}
 use Rattle.plain_3d.proofs.seen_by_header.Statement.{statement}
 use Rattle.plain_3d.proofs.seen_by_header.Tie as tie
@@ -81,7 +82,7 @@ sees-set-registers c =
     let k = c .before .before .before .before in
     let s = k .before .before .before in
     sees-bare _ (now (s .args .batch)) (s .args .at) (s .args .level) 3 (lit< tt) (row-is s (k .match .keys4) (lit< tt) refl) _ (c .found4 .ensures)
-    (λ q. c .before .before .before .length-by-field .ensures) (c .before .set-registers .ensures) (c .before .before .from2 .ensures) refl (never-nested 3 (s .args .level) (λ e. omega arith))
+    (λ q. c .before .before .before .length-by-field .ensures) (c .before .set-registers .ensures) (c .before .before .from2 .ensures) (no-address 3 refl) (never-nested 3 (s .args .level) (λ e. omega arith))
 
 sees-store : tie.Need-returns-5
 unfolding rows theRow rowFrom lengthOf usesByRow accessOf valueRules ruleOf

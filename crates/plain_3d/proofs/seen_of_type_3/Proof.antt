@@ -17,6 +17,8 @@ use Rattle.rules.proofs.Keys.{unknown-3}
 use Rattle.plain_mi.specs.Plain.{wrongOf, bareOf}
 use Rattle.plain_3d.specs.declared.Seen.{Seen}
 use Rattle.plain_3d.specs.Seeing.{Sees}
+use Rattle.plain_mi.proofs.Bare.{Unasked, no-address}
+use Rattle.plain_3d.proofs.Bases.{bases-unasked}
 use Rattle.plain_3d.proofs.Deciding.{lent, by-key, exactly-long, sees-within, sees-bare, sees-alone, sees-nothing}
 use Rattle.plain_3d.proofs.seen_of_type_3.Statement.{statement}
 use Rattle.plain_3d.proofs.seen_of_type_3.Tie as tie
@@ -38,8 +40,8 @@ module _ (s : tie.Start) {key r : ℕ} (k : headerAt (now (s .args .batch)) (s .
     within counted says = sees-within _ (now (s .args .batch)) (s .args .at) First r known row-is n found counted says lent
 
     alone : (lengthRight r (headerAt (now (s .args .batch)) (s .args .at)) ≡ true → len ≡ lengthOf r (headerAt (now (s .args .batch)) (s .args .at)))
-        → answer ≡ bareOf r rest → accessOf r ≡ noUse → Sees (s .args .w) (now (s .args .batch)) (s .args .at) First n
-    alone counted says uses = sees-bare _ (now (s .args .batch)) (s .args .at) First r known row-is n found counted says lent uses refl
+        → answer ≡ bareOf r rest → Unasked r → Sees (s .args .w) (now (s .args .batch)) (s .args .at) First n
+    alone counted says unasked = sees-bare _ (now (s .args .batch)) (s .args .at) First r known row-is n found counted says lent unasked refl
 
 pub seen-of-type-3-spec : {M : Type 1} → statement M
 unfolding rows theRow rowFrom lengthOf usesByRow accessOf valueRules ruleOf
@@ -71,7 +73,7 @@ seen-of-type-3-spec =
     (λ c.
     let k = c .before .before .before in
     alone (k .before .before .before) (k .match .keys3) refl (lit< tt) _ (c .found3 .ensures) (c .before .before .from2 .ensures)
-    (exactly-long 9 _ 14 refl) (c .before .base .ensures) refl)
+    (exactly-long 9 _ 14 refl) (c .before .base .ensures) bases-unasked)
     (λ c.
     let k = c .before .before .before .before in
     within (k .before .before .before) (k .match .keys4) refl (lit< tt) _ (c .found4 .ensures) (c .before .before .from3 .ensures)
@@ -79,7 +81,7 @@ seen-of-type-3-spec =
     (λ c.
     let k = c .before .before .before .before in
     alone (k .before .before .before) (k .match .keys5) refl (lit< tt) _ (c .found5 .ensures) (c .before .before .from4 .ensures)
-    (λ q. c .before .before .before .length-by-field2 .ensures) (c .before .vertex-elements .ensures) refl)
+    (λ q. c .before .before .before .length-by-field2 .ensures) (c .before .vertex-elements .ensures) (no-address 11 refl))
     (λ c.
     let k = c .before .before .before in
     within (k .before .before .before) (k .match .keys6) refl (lit< tt) _ (c .found6 .ensures) (c .before .before .from5 .ensures)
@@ -87,23 +89,23 @@ seen-of-type-3-spec =
     (λ c.
     let k = c .before .before .before in
     alone (k .before .before .before) (k .match .keys7) refl (lit< tt) _ (c .found7 .ensures) (c .before .before .from6 .ensures)
-    (exactly-long 13 _ 0 refl) (c .before .topology .ensures) refl)
+    (exactly-long 13 _ 0 refl) (c .before .topology .ensures) (no-address 13 refl))
     (λ c.
     let k = c .before .before .before in
     alone (k .before .before .before) (k .match .keys8) refl (lit< tt) _ (c .found8 .ensures) (c .before .before .from7 .ensures)
-    (exactly-long 14 _ 0 refl) (c .before .viewport .ensures) refl)
+    (exactly-long 14 _ 0 refl) (c .before .viewport .ensures) (no-address 14 refl))
     (λ c.
     let k = c .before .before .before in
     alone (k .before .before .before) (k .match .keys9) refl (lit< tt) _ (c .found9 .ensures) (c .before .before .from8 .ensures)
-    (exactly-long 15 _ 0 refl) (c .before .colour .ensures) refl)
+    (exactly-long 15 _ 0 refl) (c .before .colour .ensures) (no-address 15 refl))
     (λ c.
     let k = c .before .before .before in
     alone (k .before .before .before) (k .match .keys10) refl (lit< tt) _ (c .found10 .ensures) (c .before .before .from9 .ensures)
-    (exactly-long 16 _ 5 refl) (c .before .primitive .ensures) refl)
+    (exactly-long 16 _ 5 refl) (c .before .primitive .ensures) (no-address 16 refl))
     (λ c.
     let k = c .before .before .before in
     alone (k .before .before .before) (k .match .keys11) refl (lit< tt) _ (c .found11 .ensures) (c .before .before .from10 .ensures)
-    (exactly-long 17 _ 0 refl) (c .before .blend .ensures) refl)
+    (exactly-long 17 _ 0 refl) (c .before .blend .ensures) (no-address 17 refl))
     (λ c.
     let k = c .before .before in
     let s = k .before .before .before in

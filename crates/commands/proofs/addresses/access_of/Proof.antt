@@ -14,8 +14,8 @@ access-of-spec =
     tie.close
     (tie.spec
     -- what each arm's call requires
-    (λ c κs. search needs) (λ c κs. search needs) (λ c κs. search needs) (λ c κs. search needs) (λ c κs. search needs) (λ c κs. search needs)
-    (λ c κs. search needs)
+    (λ c κs. search needs) (λ c κs. search needs) (λ c κs. search needs) (λ c κs. search needs) (λ c κs. search needs) (λ c. search needs)
+    (λ c. search needs) (λ c κs. search needs) (λ c κs. search needs) (λ c κs. search needs)
     -- and what the rows use, in the table's order
     (λ c. rw (c .match .keys1))
     (λ c. rw (c .match .keys2))
@@ -26,7 +26,7 @@ access-of-spec =
     (λ c. rw (c .before .match .keys7) (c .load-register-use .ensures))
     (λ c. rw (c .before .match .keys8) (c .pipe-use .ensures))
     (λ c. rw (c .match .keys9))
-    (λ c. rw (c .match .keys10))
+    (λ c. rw (c .before .before .match .keys10) (c .base-use .ensures))
     (λ c. rw (c .before .match .keys11) (c .vertex-buffer-use .ensures))
     (λ c. rw (c .match .keys12))
     (λ c. rw (c .before .match .keys13) (c .index-buffer-use .ensures))

@@ -12,6 +12,7 @@ use Rattle.rules.specs.Words.{allowed}
 use Rattle.rules.specs.Refusals.{numberOf}
 use Rattle.rules.specs.Commands.{vertexElementsRow, rows, theRow, groupSize}
 use Rattle.rules.specs.Masks.{masksOf, bitWrong}
+use Rattle.rules.specs.Uses.{usesByRow, accessOf, usedHighOf}
 use Rattle.plain_mi.specs.Plain.{firstCoded}
 use Rattle.plain_mi.proofs.Tests.{Test, asked, answered, refuses, passes, in-two}
 use Rattle.plain_mi.proofs.Dwords.{bit-in}
@@ -26,12 +27,12 @@ abbrev Left : tie.Start → ℕ → Type 0
 Left s n = let k = s .args .k in let d = s .args .d .now in answered (drop n (tests d k)) 0 ≡ firstCoded BitNotAllowed (bitWrong vertexElementsRow d) k 2
 
 all-left : (c : tie.After-shared-slice-known) → Left (c .before) 0
-unfolding rows theRow groupSize masksOf numberOf
+unfolding rows theRow groupSize usesByRow accessOf usedHighOf masksOf numberOf
 all-left c =
     let s = c .before in
     let k = s .args .k in
-    in-two _ _ k (bit-in vertexElementsRow refl _ _ (s .pre) 0 (omega arith) (omega arith) refl)
-    (bit-in vertexElementsRow refl _ _ (s .pre) 1 (omega arith) refl refl)
+    in-two _ _ k (bit-in vertexElementsRow refl _ _ (s .pre) 0 (omega arith) (omega arith) refl refl)
+    (bit-in vertexElementsRow refl _ _ (s .pre) 1 (omega arith) refl refl refl)
 
 first-kept : (c : tie.Else1) → let start = c .before .before .before .before in Left start 1
 first-kept c = passes _ _ (asked (c .before .allowed .ensures) (c .if1 .left)) (all-left (c .before .before .before))

@@ -10,7 +10,7 @@ use Rattle.rules.proofs.Searching.{either}
 use mathlib.Core.Logic.{⊎-elim}
 use Rattle.rules.specs.Commands.{vertexElementsRow, rows, theRow, groupSize}
 use Rattle.rules.specs.Masks.{masksOf}
-use Rattle.rules.specs.Uses.{usesByRow, accessOf}
+use Rattle.rules.specs.Uses.{usesByRow, accessOf, usedHighOf}
 use Rattle.plain_mi.specs.Plain.{noWindows}
 use Rattle.plain_mi.proofs.Coding.{no-fault}
 use Rattle.plain_mi.proofs.Cleanness.{bits-fail, values-fail, ranges-decide, no-ranges}
@@ -25,13 +25,13 @@ bit c =
     sym (bits-fail noWindows vertexElementsRow _ (start .args .k) 2 (λ z. c .if1 .taken (bits .element-bit .ensures ∙ z)))
 
 element-value-requires : tie.Need-element-value-requires
-unfolding rows theRow groupSize masksOf
+unfolding rows theRow groupSize usesByRow accessOf usedHighOf masksOf
 element-value-requires c κs =
     let bits = c .before in
     let start = bits .before .before in
     let k = start .args .k in (
       start .pre,
-      kept-at vertexElementsRow _ (k + 1) 2 (spot-in 2 k 1 (start .pre .0) (start .pre .2) (omega arith) refl) refl
+      kept-at vertexElementsRow _ (k + 1) 2 (spot-in 2 k 1 (start .pre .0) (start .pre .2) (omega arith) refl) refl refl
           (no-fault _ _ k 2 (sym (bits .element-bit .ensures) ∙ c .if1 .left) (k + 1) (omega arith) (omega arith)),
     )
 

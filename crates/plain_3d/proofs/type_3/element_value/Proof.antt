@@ -15,6 +15,7 @@ use Rattle.rules.specs.Refusals.{numberOf}
 use Rattle.rules.specs.Formats.{formatBits}
 use Rattle.rules.specs.Commands.{vertexElementsRow, rows, theRow, groupSize}
 use Rattle.rules.specs.Values.{componentsWrong, valueRules, ruleOf, valueWrong}
+use Rattle.rules.specs.Uses.{usesByRow, accessOf, usedHighOf}
 use Rattle.plain_mi.specs.Plain.{firstCoded}
 use Rattle.plain_mi.proofs.Tests.{Test, asked, answered, refuses, passes, one-by-one, in-two}
 use Rattle.plain_mi.proofs.Dwords.{value-in, high-index, low-index}
@@ -34,7 +35,7 @@ abbrev Left : tie.Start → ℕ → Type 0
 Left s n = let k = s .args .k in let d = s .args .d .now in answered (drop n (tests d k)) 0 ≡ firstCoded ValueBroken (valueWrong vertexElementsRow d) k 2
 
 all-left : (s : tie.Start) → Left s 0
-unfolding rows theRow groupSize valueRules ruleOf numberOf
+unfolding rows theRow groupSize valueRules ruleOf numberOf usesByRow accessOf usedHighOf
 all-left s =
     let d = s .args .d .now in
     let k = s .args .k in
@@ -43,8 +44,8 @@ all-left s =
     let controls = componentsWrong (getD d (k + 1) 0) in
     rw (Bool·not-not format, Bool·not-not controls)
     (one-by-one index format (3072 + k) (cond controls (3072 + (k + 1)) 0)
-    ∙ in-two _ _ k (value-in vertexElementsRow refl _ _ (s .pre .0) 0 (omega arith) (omega arith) ∙ or-false (index || format))
-    (value-in vertexElementsRow refl _ _ (s .pre .0) 1 (omega arith) refl))
+    ∙ in-two _ _ k (value-in vertexElementsRow refl _ _ (s .pre .0) 0 (omega arith) (omega arith) refl ∙ or-false (index || format))
+    (value-in vertexElementsRow refl _ _ (s .pre .0) 1 (omega arith) refl refl))
 
 abbrev start : tie.Else1 → tie.Start
 start c = c .before .before .before

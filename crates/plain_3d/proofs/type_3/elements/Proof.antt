@@ -6,8 +6,8 @@ use mathlib.Core.Path.{refl, sym, _∙_}
 use Rattle.rules.specs.declared.Level.the-variants.{First}
 use Rattle.rules.specs.Commands.{vertexElementsRow}
 use Rattle.rules.specs.Words.{inGroup}
-use Rattle.rules.specs.Uses.{usesByRow, accessOf, accessAt}
-use Rattle.rules.specs.Values.{valueRules, ruleOf, valueWrong}
+use Rattle.rules.specs.Uses.{usesByRow, accessOf, accessAt, usedHighOf}
+use Rattle.rules.specs.Values.{valueRules, ruleOf, valueWrong, highWrong, valueWrongOf}
 use Rattle.rules.specs.Addresses.{rangeWrong}
 use Rattle.plain_mi.specs.Plain.{noWindows}
 use Rattle.plain_mi.proofs.Content.{HeaderRight, all-clean, bit-first, value-last}
@@ -15,7 +15,7 @@ use Rattle.plain_3d.proofs.type_3.elements.Statement.{statement}
 use Rattle.plain_3d.proofs.type_3.elements.Tie as tie
 
 header : (c : tie.Start) → HeaderRight noWindows vertexElementsRow (c .args .d .now) First
-unfolding inGroup valueRules ruleOf valueWrong usesByRow accessOf accessAt rangeWrong
+unfolding inGroup valueRules ruleOf highWrong valueWrongOf valueWrong usesByRow accessOf accessAt usedHighOf rangeWrong
 header c = record { some = c .pre .0 .0; bits = c .pre .1; value = refl; range = refl; quiet = refl }
 
 abbrev start : tie.After-first-of-elements → tie.Start

@@ -6,6 +6,7 @@ use mathlib.Core.Path.{refl}
 use lib.ListN.{length}
 use Rattle.rules.specs.Commands.{vertexElementsRow, rows, theRow, groupSize}
 use Rattle.rules.specs.Masks.{masksOf}
+use Rattle.rules.specs.Uses.{usesByRow, accessOf, usedHighOf}
 use Rattle.plain_mi.specs.Plain.{firstBy, noWindows}
 use Rattle.plain_mi.proofs.Coding.{no-fault}
 use Rattle.plain_mi.proofs.Dwords.{spot-in, kept-at}
@@ -27,13 +28,13 @@ turn c = turn-at (c .before .loop .inv) (start c .pre .0 .1) (c .loop-test .take
 
 -- its second dword keeps its mask, where that is asked
 asked-of : tie.Need-element-wrong-requires Inv-loop μ-loop
-unfolding rows theRow groupSize masksOf firstBy
+unfolding rows theRow groupSize usesByRow accessOf usedHighOf masksOf firstBy
 asked-of c κs =
     let k = c .before .loop .k in
     let there = turn c .there in (
       there,
       λ v.
-          kept-at vertexElementsRow _ (k + 1) 2 (spot-in 2 k 1 (there .0) (there .2) (omega arith) refl) refl
+          kept-at vertexElementsRow _ (k + 1) 2 (spot-in 2 k 1 (there .0) (there .2) (omega arith) refl) refl refl
           (no-fault _ _ 1 _ (start c .pre .1 v) (k + 1) (omega arith) (omega (arith, there .1))),
     )
 

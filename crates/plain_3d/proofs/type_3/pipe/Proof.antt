@@ -1,4 +1,4 @@
--- `plain_3d::type_3::pipe` meets its contract: the header, and then one test after the other.
+-- `plain_3d::type_3::pipe` meets its contract: the header, and then one test after the other, with post-sync and without.
 -- Assumes nothing.
 use Prim.Native.Nat.{ℕ, _≤_}
 use native.Mathlib.Omega.{arith}
@@ -8,17 +8,22 @@ use lib.ListN.{length, drop}
 use borrow.Author.Needs.{needs}
 use borrow.Author.Tests.{eq-eqb, ne-eqb}
 use Rattle.rules.specs.declared.Level.the-variants.{First}
+use Rattle.rules.specs.declared.Reason.the-variants.{ValueBroken}
 use Rattle.rules.specs.Commands.{pipeRow}
-use Rattle.plain_mi.specs.Plain.{wrongOf}
+use Rattle.rules.specs.Values.{valueWrong}
+use Rattle.plain_mi.specs.Plain.{firstCoded, wrongOf}
 use Rattle.plain_mi.proofs.Fitting.{scratch-holds}
 use Rattle.plain_mi.proofs.Tests.{asked, answered, refuses, passes}
 use Rattle.plain_mi.proofs.Whole.{whole-refuses, head-fits}
-use Rattle.plain_3d.proofs.Rows.{pipe-row, pipe-bits, pipe-behind, pipe-tests, pipe-tested, pipe-unsynced, pipe-synced}
+use Rattle.plain_3d.proofs.Rows.{pipe-row, pipe-bits, pipe-behind, pipe-tests, unsynced-tests, pipe-tested, pipe-unsynced, pipe-synced}
 use Rattle.plain_3d.proofs.type_3.pipe.Statement.{statement}
 use Rattle.plain_3d.proofs.type_3.pipe.Tie as tie
 
+abbrev known : tie.Else1 → tie.After-shared-slice-known
+known c = c .before .before
+
 abbrev start : tie.Else1 → tie.Start
-start c = c .before .before .before
+start c = known c .before
 
 fits : (c : tie.Else1) → 6 ≤ length (start c .args .rest .now)
 fits c = head-fits _ _ (c .before .whole-header .ensures) (c .if1 .left)
@@ -32,69 +37,66 @@ Bits c k = let d = start c .args .rest .now in answered (drop k (pipe-bits d)) (
 
 all-left : (c : tie.Else1) → Bits c 0
 all-left c =
-    let given = c .before .before .shared-slice-known .given in
+    let given = known c .shared-slice-known .given in
     pipe-tested _ _ (c .before .whole-header .ensures) (c .if1 .left) (given 4 .fits) (given 5 .fits)
 
--- where the test before was passed: the header's, those of the first three dwords, and whether there is post-sync
-abbrev whole : tie.Else2 → tie.Else1
-whole c = c .before .before .before
+-- the place behind the header, from each place behind it
+abbrev flags : tie.Else2 → tie.Else1
+flags c = c .before .before .before
 
-abbrev first : tie.Else3 → tie.Else2
-first c = c .before .before .before
+abbrev low : tie.Else3 → tie.Else1
+low c = flags (c .before .before .before)
 
-abbrev second : tie.Else4 → tie.Else3
-second c = c .before .before .before
+first-kept : (c : tie.Else2) → Bits (flags c) 1
+first-kept c = passes 2561 _ (asked (c .before .allowed .ensures) (c .if2 .left)) (all-left (flags c))
 
-abbrev third : tie.Else5 → tie.Else4
-third c = c .before .before
+second-kept : (c : tie.Else3) → Bits (low c) 2
+second-kept c = passes 2562 _ (asked (c .before .allowed2 .ensures) (c .if3 .left)) (first-kept (c .before .before .before))
 
-abbrev sync : tie.Else6 → tie.Else5
-sync c = c .before .before
+-- without post-sync
+abbrev off : tie.Then4 → tie.Else1
+off c = low (c .before .before)
 
-abbrev head : tie.Else4 → tie.Else1
-head c = whole (first (second c))
-
-first-kept : (c : tie.Else2) → Bits (whole c) 1
-first-kept c = passes 2561 _ (asked (c .before .allowed .ensures) (c .if2 .left)) (all-left (whole c))
-
-second-kept : (c : tie.Else3) → Bits (whole (first c)) 2
-second-kept c = passes 2562 _ (asked (c .before .allowed2 .ensures) (c .if3 .left)) (first-kept (first c))
-
-third-kept : (c : tie.Else4) → Bits (head c) 3
-third-kept c = passes 2563 _ (asked (c .before .allowed3 .ensures) (c .if4 .left)) (second-kept (second c))
+unsynced : (c : tie.Then4) → let d = start (off c) .args .rest .now in
+    answered (unsynced-tests d) (firstCoded ValueBroken (valueWrong pipeRow d) 0 6) ≡ wrong (off c)
+unsynced c = pipe-unsynced _ _ (c .if4 .taken) ∙ second-kept (c .before .before)
 
 -- with post-sync, of 12 and 13 the tests behind the first k
 abbrev Left : tie.Else1 → ℕ → Type 0
 Left c k = answered (drop k (pipe-tests (start c .args .w) (start c .args .rest .now))) 0 ≡ wrong c
 
-synced : (c : tie.Else5) → Left (head (third c)) 0
-synced c = pipe-synced _ _ (c .if5 .left) ∙ third-kept (third c)
+abbrev on : tie.Else4 → tie.Else1
+on c = low (c .before .before)
 
-aligned : (c : tie.Else6) → Left (head (third (sync c))) 1
-aligned c = passes 3074 _ (ap not (eq-eqb _ _ (c .if6 .left))) (synced (sync c))
+synced : (c : tie.Else4) → Left (on c) 0
+synced c = pipe-synced _ _ (c .if4 .left) (known (on c) .shared-slice-known .given 3 .fits) ∙ second-kept (c .before .before)
 
-unsynced : tie.Need-returns-5
-unsynced c =
-    let left = c .before in
-    let kept = left .before .before in
-    c .pipe-unsynced .ensures ∙ pipe-unsynced _ _ (left .if5 .taken) ∙ third-kept kept
+abbrev eights : tie.Else6 → tie.Else1
+eights c = on (c .before .before)
 
--- and where all were, before it is asked whether scratch holds the address
-abbrev passed : tie.After-holds → tie.Else6
-passed c = c .before .before .before .before
+aligned : (c : tie.Else6) → Left (eights c) 1
+aligned c = passes 3074 _ (ap not (eq-eqb _ _ (c .if6 .left))) (synced (c .before .before))
 
-outside : tie.Need-returns-7
+abbrev whole : tie.Else7 → tie.Else1
+whole c = eights (c .before .before .before)
+
+high-right : (c : tie.Else7) → Left (whole c) 2
+high-right c = passes 3075 _ (asked (c .before .canonical .ensures) (c .if7 .left)) (aligned (c .before .before .before))
+
+outside : tie.Need-returns-8
 outside c =
     let fit = c .before .before in
-    c .at5 .ensures
-    ∙ refuses 3330 _ (asked (scratch-holds _ 8 (fit .before .address-of .ensures) (fit .holds .ensures)) (c .before .if7 .taken))
-    (aligned (passed fit))
+    let made = fit .before in
+    c .at6 .ensures
+    ∙ refuses 3330 _ (asked (scratch-holds _ 8 (made .address-of .ensures) (fit .holds .ensures)) (c .before .if8 .taken))
+    (high-right (made .before .before .before))
 
-nothing : tie.Need-returns-8
+nothing : tie.Need-returns-9
 nothing c =
     let fit = c .before in
-    passes 3330 _ (asked (scratch-holds _ 8 (fit .before .address-of .ensures) (fit .holds .ensures)) (c .if7 .left))
-    (aligned (passed fit))
+    let made = fit .before in
+    passes 3330 _ (asked (scratch-holds _ 8 (made .address-of .ensures) (fit .holds .ensures)) (c .if8 .left))
+    (high-right (made .before .before .before))
 
 pub pipe-spec : {M : Type 1} → statement M
 pipe-spec =
@@ -103,14 +105,16 @@ pipe-spec =
     (λ c. whole-refuses pipe-row _ _ First (c .before .whole-header .ensures) (c .before .before .before .pre .1) (c .if1 .taken))
     (λ c. omega (arith, fits (c .before))) (λ c κs. search needs) (λ c κs. search needs)
     (λ c. let test = c .before .before in c .at .ensures ∙ refuses 2561 _ (asked (test .allowed .ensures) (c .before .if2 .taken)) (all-left (test .before .before)))
-    (λ c. omega (arith, fits (whole (c .before)))) (λ c κs. search needs) (λ c κs. search needs)
+    (λ c. omega (arith, fits (flags (c .before)))) (λ c κs. search needs) (λ c κs. search needs)
     (λ c. let test = c .before .before in c .at2 .ensures ∙ refuses 2562 _ (asked (test .allowed2 .ensures) (c .before .if3 .taken)) (first-kept (test .before .before)))
-    (λ c. omega (arith, fits (whole (first (c .before))))) (λ c κs. search needs) (λ c κs. search needs)
-    (λ c. let test = c .before .before in c .at3 .ensures ∙ refuses 2563 _ (asked (test .allowed3 .ensures) (c .before .if4 .taken)) (second-kept (test .before .before)))
-    (λ c. omega (arith, fits (head (c .before))))
-    (λ c κs. (fits (head (c .before .before)), c .if5 .taken)) unsynced
-    (λ c. omega (arith, fits (head (third (c .before))))) (λ c κs. search needs)
+    (λ c. omega (arith, fits (low (c .before))))
+    (λ c. omega (arith, fits (off (c .before)))) (λ c κs. search needs) (λ c κs. search needs)
+    (λ c. let test = c .before .before in c .at3 .ensures ∙ refuses 2563 _ (asked (test .allowed3 .ensures) (c .before .if5 .taken)) (unsynced (test .before .before)))
+    (λ c κs. let none = c .before .before .before in (fits (off none), none .if4 .taken))
+    (λ c. let test = c .before .before in c .pipe-unsynced .ensures ∙ passes 2563 _ (asked (test .allowed3 .ensures) (c .before .if5 .left)) (unsynced (test .before .before)))
+    (λ c. omega (arith, fits (on (c .before)))) (λ c κs. search needs)
     (λ c. c .at4 .ensures ∙ refuses 3074 _ (ap not (ne-eqb _ _ (c .before .if6 .taken))) (synced (c .before .before .before)))
-    (λ c. omega (arith, fits (head (third (sync (c .before))))))
-    (λ c. omega (arith, fits (head (third (sync (c .before .before))))))
+    (λ c. omega (arith, fits (eights (c .before)))) (λ c κs. search needs) (λ c κs. search needs)
+    (λ c. let test = c .before .before in c .at5 .ensures ∙ refuses 3075 _ (asked (test .canonical .ensures) (c .before .if7 .taken)) (aligned (test .before .before)))
+    (λ c. omega (arith, fits (whole (c .before)))) (λ c. omega (arith, fits (whole (c .before .before))))
     (λ c κs. search needs) (λ c κs. search needs) (λ c κs. search needs) outside nothing)

@@ -5,13 +5,14 @@ use borrow.Author.Tests.{eq-eqb, ne-eqb}
 use Rattle.rules.specs.Words.{inGroup, firstFrom}
 use Rattle.rules.specs.Refusals.{numberOf}
 use Rattle.rules.specs.Commands.{rows, theRow, groupSize}
-use Rattle.rules.specs.Values.{valueRules, ruleOf, valueWrong}
+use Rattle.rules.specs.Uses.{usesByRow, accessOf, usedHighOf}
+use Rattle.rules.specs.Values.{valueRules, ruleOf, highWrong, valueWrongOf, valueWrong}
 use Rattle.plain_mi.specs.Plain.{coded}
 use Rattle.plain_3d.proofs.type_3.pipe_unsynced.Statement.{statement}
 use Rattle.plain_3d.proofs.type_3.pipe_unsynced.Tie as tie
 
 pub pipe-unsynced-spec : {M : Type 1} → statement M
-unfolding coded firstFrom numberOf inGroup rows theRow groupSize valueWrong valueRules ruleOf
+unfolding coded firstFrom numberOf inGroup rows theRow groupSize usesByRow accessOf usedHighOf highWrong valueWrongOf valueWrong valueRules ruleOf
 pipe-unsynced-spec =
     tie.close
     (tie.spec (λ c. search needs) (λ c κs. search needs)

@@ -13,14 +13,14 @@ use Rattle.rules.specs.declared.Level.the-variants.{First}
 use Rattle.rules.specs.Words.{allowed, inGroup, firstFrom}
 use Rattle.rules.specs.Refusals.{batchWindow, numberOf, refuseFound}
 use Rattle.rules.specs.Commands.{primitiveRow, exactly, rows, theRow, groupSize}
-use Rattle.rules.specs.Uses.{addressAt, usesByRow, accessOf, accessAt}
+use Rattle.rules.specs.Uses.{addressAt, usesByRow, accessOf, accessAt, usedHighOf}
 use Rattle.rules.specs.Masks.{masksOf, allowedOf, allowedAt, bitWrong}
-use Rattle.rules.specs.Values.{valueRules, ruleOf, valueWrong}
+use Rattle.rules.specs.Values.{valueRules, ruleOf, valueWrong, highWrong, valueWrongOf}
 use Rattle.rules.specs.Addresses.{rangeWrong}
 use Rattle.rules.proofs.Tables.{each, at-each}
 use Rattle.looks.specs.Looks.{contentOf}
 use Rattle.plain_mi.specs.Plain.{coded}
-use Rattle.plain_mi.proofs.Dwords.{any-dword}
+use Rattle.rules.proofs.Used.{any-dword}
 use Rattle.plain_mi.proofs.Headers.{other-exact}
 use Rattle.plain_mi.proofs.Lengths.{exact-past, exact-says}
 use Rattle.plain_mi.proofs.Tests.{asked}
@@ -56,7 +56,7 @@ past : tie.Need-returns-2
 past c = c .at .ensures ∙ exact-past primitiveRow 5 row _ _ _ (field-5 _ (c .before .before .if1 .left)) (c .before .if2 .taken)
 
 bit : tie.Need-returns-3
-unfolding coded contentOf firstFrom numberOf bitWrong allowedAt allowedOf masksOf inGroup rows theRow groupSize
+unfolding coded contentOf firstFrom numberOf bitWrong allowedAt allowedOf masksOf inGroup rows theRow groupSize accessOf usesByRow usedHighOf
 bit c =
     let called = c .before .before in
     let whole = called .before .before in
@@ -66,7 +66,7 @@ bit c =
 
 by-end : tie.Need-returns-4
 unfolding coded contentOf firstFrom numberOf bitWrong allowedAt allowedOf masksOf inGroup rows theRow groupSize
-    valueWrong valueRules ruleOf rangeWrong addressAt accessAt accessOf usesByRow
+    highWrong valueWrongOf valueWrong valueRules ruleOf rangeWrong addressAt accessAt accessOf usesByRow usedHighOf
 by-end c =
     let masked = c .before .before .before in
     let whole = masked .before .before .before in
@@ -88,7 +88,7 @@ by-end c =
 
 nothing : tie.Need-returns-5
 unfolding coded contentOf firstFrom numberOf bitWrong allowedAt allowedOf masksOf inGroup rows theRow groupSize
-    valueWrong valueRules ruleOf rangeWrong addressAt accessAt accessOf usesByRow
+    highWrong valueWrongOf valueWrong valueRules ruleOf rangeWrong addressAt accessAt accessOf usesByRow usedHighOf
 nothing c =
     let masked = c .before .before in
     let whole = masked .before .before .before in

@@ -12,7 +12,8 @@ use Rattle.rules.specs.declared.Reason.the-variants.{ValueBroken}
 use Rattle.rules.specs.Words.{inGroup}
 use Rattle.rules.specs.Refusals.{numberOf}
 use Rattle.rules.specs.Commands.{primitiveRow, rows, theRow, groupSize}
-use Rattle.rules.specs.Values.{valueRules, ruleOf, valueWrong}
+use Rattle.rules.specs.Values.{valueRules, ruleOf, valueWrong, highWrong, valueWrongOf}
+use Rattle.rules.specs.Uses.{usesByRow, accessOf, usedHighOf}
 use Rattle.plain_mi.specs.Plain.{firstCoded}
 use Rattle.plain_mi.proofs.Tests.{Test, answered, tested, searched-last, refuses, passes, one-by-one}
 use Rattle.plain_3d.proofs.type_3.primitive_by_end.Statement.{statement}
@@ -32,7 +33,7 @@ abbrev Left : tie.Start → ℕ → Type 0
 Left s n = let d = s .args .rest .now in answered (drop n (tests (s .args .header) d)) 0 ≡ firstCoded ValueBroken (valueWrong primitiveRow d) 0 7
 
 all-left : (s : tie.Start) → Left s 0
-unfolding tested inGroup rows theRow groupSize valueWrong valueRules ruleOf numberOf
+unfolding tested inGroup rows theRow groupSize usesByRow accessOf usedHighOf highWrong valueWrongOf valueWrong valueRules ruleOf numberOf
 all-left s =
     sym
     (searched-last ValueBroken (valueWrong primitiveRow (s .args .rest .now)) 0 7

@@ -10,6 +10,7 @@ use Rattle.rules.specs.declared.Reason.the-variants.{BitNotAllowed}
 use Rattle.rules.specs.Words.{allowed}
 use Rattle.rules.specs.Refusals.{numberOf}
 use Rattle.rules.specs.Commands.{setRegistersRow, rows, theRow, groupSize}
+use Rattle.rules.specs.Uses.{usesByRow, accessOf, usedHighOf}
 use Rattle.rules.specs.Masks.{masksOf, bitWrong}
 use Rattle.plain_mi.specs.Plain.{firstCoded}
 use Rattle.plain_mi.proofs.Tests.{asked, refuses, passes, in-two}
@@ -19,12 +20,12 @@ use Rattle.plain_mi.proofs.type_0.pair_bit.Tie as tie
 
 decides : (c : tie.After-shared-slice-known) → let s = c .before in let k = s .args .k in let d = s .args .d .now in
     cond (not (allowed (getD d k 0) 0x007FFFFC)) (2560 + k) 0 ≡ firstCoded BitNotAllowed (bitWrong setRegistersRow d) k 2
-unfolding rows theRow groupSize masksOf numberOf
+unfolding rows theRow groupSize usesByRow accessOf usedHighOf masksOf numberOf
 decides c =
     let s = c .before in
     let k = s .args .k in
-    in-two _ _ k (bit-in setRegistersRow refl _ _ (s .pre) 0 (omega arith) (omega arith) refl)
-    (free-in setRegistersRow refl _ _ (s .pre) 1 (omega arith) refl refl (c .shared-slice-known .given (k + 1) .fits))
+    in-two _ _ k (bit-in setRegistersRow refl _ _ (s .pre) 0 (omega arith) (omega arith) refl refl)
+    (free-in setRegistersRow refl _ _ (s .pre) 1 (omega arith) refl refl refl (c .shared-slice-known .given (k + 1) .fits))
 
 pub pair-bit-spec : {M : Type 1} → statement M
 pair-bit-spec =

@@ -10,6 +10,7 @@ use Rattle.rules.specs.declared.Reason.the-variants.{ValueBroken}
 use Rattle.rules.specs.Formats.{knownRegister}
 use Rattle.rules.specs.Refusals.{numberOf}
 use Rattle.rules.specs.Commands.{setRegistersRow, rows, theRow, groupSize}
+use Rattle.rules.specs.Uses.{usesByRow, accessOf, usedHighOf}
 use Rattle.rules.specs.Values.{valueRules, ruleOf, valueWrong}
 use Rattle.plain_mi.specs.Plain.{firstCoded}
 use Rattle.plain_mi.proofs.Tests.{asked, refuses, passes, in-two}
@@ -19,10 +20,10 @@ use Rattle.plain_mi.proofs.type_0.pair_value.Tie as tie
 
 decides : (s : tie.Start) → let k = s .args .k in let d = s .args .d .now in
     cond (not (knownRegister (getD d k 0))) (3072 + k) 0 ≡ firstCoded ValueBroken (valueWrong setRegistersRow d) k 2
-unfolding rows theRow groupSize valueRules ruleOf numberOf
+unfolding rows theRow groupSize usesByRow accessOf usedHighOf valueRules ruleOf numberOf
 decides s =
-    in-two _ _ (s .args .k) (value-in setRegistersRow refl _ _ (s .pre) 0 (omega arith) (omega arith))
-    (value-in setRegistersRow refl _ _ (s .pre) 1 (omega arith) refl)
+    in-two _ _ (s .args .k) (value-in setRegistersRow refl _ _ (s .pre) 0 (omega arith) (omega arith) refl)
+    (value-in setRegistersRow refl _ _ (s .pre) 1 (omega arith) refl refl)
 
 pub pair-value-spec : {M : Type 1} → statement M
 pair-value-spec =

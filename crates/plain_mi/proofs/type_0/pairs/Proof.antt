@@ -5,8 +5,8 @@ use mathlib.Core.Path.{refl}
 use Rattle.rules.specs.declared.Level.the-variants.{First}
 use Rattle.rules.specs.Commands.{setRegistersRow}
 use Rattle.rules.specs.Words.{inGroup}
-use Rattle.rules.specs.Uses.{usesByRow, accessOf, accessAt}
-use Rattle.rules.specs.Values.{valueRules, ruleOf, valueWrong}
+use Rattle.rules.specs.Uses.{usesByRow, accessOf, accessAt, usedHighOf}
+use Rattle.rules.specs.Values.{valueRules, ruleOf, highWrong, valueWrongOf, valueWrong}
 use Rattle.rules.specs.Addresses.{rangeWrong}
 use Rattle.plain_mi.specs.Plain.{noWindows}
 use Rattle.plain_mi.proofs.Content.{HeaderRight, all-clean, bit-first, value-last}
@@ -14,7 +14,7 @@ use Rattle.plain_mi.proofs.type_0.pairs.Statement.{statement}
 use Rattle.plain_mi.proofs.type_0.pairs.Tie as tie
 
 header : (c : tie.Start) → HeaderRight noWindows setRegistersRow (c .args .d .now) First
-unfolding inGroup valueRules ruleOf valueWrong usesByRow accessOf accessAt rangeWrong
+unfolding inGroup valueRules ruleOf highWrong valueWrongOf valueWrong usesByRow accessOf accessAt usedHighOf rangeWrong
 header c = record { some = c .pre .0 .0; bits = c .pre .1; value = refl; range = refl; quiet = refl }
 
 abbrev start : tie.After-first-of-pairs → tie.Start

@@ -14,59 +14,57 @@ use Rattle.plain_mi.proofs.Starts.{start-field, start-past, start-tests
 use Rattle.plain_mi.proofs.type_0.start.Statement.{statement}
 use Rattle.plain_mi.proofs.type_0.start.Tie as tie
 
+abbrev known : tie.Else2 → tie.After-shared-slice-known
+known c = c .before .before .before
+
 -- the tests behind the first k of them decide
 abbrev Left : tie.Else2 → ℕ → Type 0
 Left c k =
-    let s = c .before .before .before .before in
+    let s = known c .before in
     let d = s .args .rest .now in
     answered (drop k (start-tests (s .args .w) d (s .args .level))) 0 ≡ wrongOf (s .args .w) startRow d (s .args .level)
 
 all-left : (c : tie.Else2) → Left c 0
-all-left c = start-tested _ _ _ (c .before .if1 .left) (c .if2 .left)
+all-left c = start-tested _ _ _ (c .before .if1 .left) (c .if2 .left) (known c .shared-slice-known .given 2 .fits)
 
--- where the test before was passed: of the command's end, and of the masks of the header and both dwords
-abbrev whole : tie.Else3 → tie.Else2
-whole c = c .before .before
+header-kept : (c : tie.Else3) → Left (c .before .before) 1
+header-kept c = passes 2560 _ (asked (c .before .allowed .ensures) (c .if3 .left)) (all-left (c .before .before))
 
-abbrev header : tie.Else4 → tie.Else3
-header c = c .before .before .before
+-- the place behind the length, from each place behind it
+abbrev from-low : tie.Else4 → tie.Else2
+from-low c = c .before .before .before .before .before
 
-abbrev first : tie.Else5 → tie.Else4
-first c = c .before .before .before
+abbrev from-level : tie.Else5 → tie.Else2
+from-level c = from-low (c .before .before)
 
-abbrev second : tie.Else6 → tie.Else5
-second c = c .before .before
+abbrev from-set : tie.Else6 → tie.Else2
+from-set c = from-level (c .before)
 
-header-kept : (c : tie.Else3) → Left (whole c) 1
-header-kept c = passes 2560 _ (asked (c .before .allowed .ensures) (c .if3 .left)) (all-left (whole c))
+low-kept : (c : tie.Else4) → Left (from-low c) 2
+low-kept c = passes 2561 _ (asked (c .before .allowed2 .ensures) (c .if4 .left)) (header-kept (c .before .before .before))
 
-first-kept : (c : tie.Else4) → Left (whole (header c)) 2
-first-kept c = passes 2561 _ (asked (c .before .allowed2 .ensures) (c .if4 .left)) (header-kept (header c))
+outer : (c : tie.Else5) → Left (from-level c) 3
+outer c = passes 2816 _ (sym (c .before .is-nested .ensures) ∙ c .if5 .left) (low-kept (c .before .before))
 
-second-kept : (c : tie.Else5) → Left (whole (header (first c))) 3
-second-kept c = passes 2562 _ (asked (c .before .allowed3 .ensures) (c .if5 .left)) (first-kept (first c))
+set : (c : tie.Else6) → Left (from-set c) 4
+set c = passes 3072 _ (ap not (eq-eqb _ _ (c .if6 .left))) (outer (c .before))
 
-outer : (c : tie.Else6) → Left (whole (header (first (second c)))) 4
-outer c = passes 2816 _ (sym (c .before .is-nested .ensures) ∙ c .if6 .left) (second-kept (second c))
-
-set : (c : tie.Else7) → Left (whole (header (first (second (c .before))))) 5
-set c = passes 3072 _ (ap not (eq-eqb _ _ (c .if7 .left))) (outer (c .before))
-
--- and where all were, before it is asked whether the batch holds the address
-abbrev passed : tie.After-holds → tie.Else7
-passed c = c .before .before .before .before
+high-right : (c : tie.Else7) → Left (from-set (c .before .before .before)) 5
+high-right c = passes 3074 _ (asked (c .before .canonical .ensures) (c .if7 .left)) (set (c .before .before .before))
 
 outside : tie.Need-returns-8
 outside c =
     let fit = c .before .before in
-    let fitting = batch-holds _ 4 (fit .before .address-of .ensures) (fit .holds .ensures) in
-    c .at8 .ensures ∙ refuses 3329 _ (asked fitting (c .before .if8 .taken)) (set (passed fit))
+    let made = fit .before in
+    let fitting = batch-holds _ 4 (made .address-of .ensures) (fit .holds .ensures) in
+    c .at8 .ensures ∙ refuses 3329 _ (asked fitting (c .before .if8 .taken)) (high-right (made .before .before .before))
 
 nothing : tie.Need-returns-9
 nothing c =
     let fit = c .before in
-    let fitting = batch-holds _ 4 (fit .before .address-of .ensures) (fit .holds .ensures) in
-    passes 3329 _ (asked fitting (c .if8 .left)) (set (passed fit))
+    let made = fit .before in
+    let fitting = batch-holds _ 4 (made .address-of .ensures) (fit .holds .ensures) in
+    passes 3329 _ (asked fitting (c .if8 .left)) (high-right (made .before .before .before))
 
 pub start-spec : {M : Type 1} → statement M
 start-spec =
@@ -74,12 +72,12 @@ start-spec =
     (tie.spec (λ c. search needs) (λ c κs. search needs) (λ c. c .at .ensures ∙ start-field _ _ _ (c .before .if1 .taken))
     (λ c κs. search needs) (λ c. c .at2 .ensures ∙ start-past _ _ _ (c .before .before .if1 .left) (c .before .if2 .taken))
     (λ c κs. search needs) (λ c κs. search needs)
-    (λ c. c .at3 .ensures ∙ refuses 2560 _ (asked (c .before .before .allowed .ensures) (c .before .if3 .taken)) (all-left (c .before .before .before)))
+    (λ c. let test = c .before .before in c .at3 .ensures ∙ refuses 2560 _ (asked (test .allowed .ensures) (c .before .if3 .taken)) (all-left (test .before)))
     (λ c. search needs) (λ c κs. search needs) (λ c κs. search needs)
     (λ c. let test = c .before .before in c .at4 .ensures ∙ refuses 2561 _ (asked (test .allowed2 .ensures) (c .before .if4 .taken)) (header-kept (test .before .before)))
-    (λ c. search needs) (λ c κs. search needs) (λ c κs. search needs)
-    (λ c. let test = c .before .before in c .at5 .ensures ∙ refuses 2562 _ (asked (test .allowed3 .ensures) (c .before .if5 .taken)) (first-kept (test .before .before)))
     (λ c κs. search needs) (λ c κs. search needs)
-    (λ c. c .at6 .ensures ∙ refuses 2816 _ (sym (c .before .before .is-nested .ensures) ∙ c .before .if6 .taken) (second-kept (c .before .before .before)))
-    (λ c κs. search needs) (λ c. c .at7 .ensures ∙ refuses 3072 _ (ap not (ne-eqb _ _ (c .before .if7 .taken))) (outer (c .before .before)))
+    (λ c. let test = c .before .before in c .at5 .ensures ∙ refuses 2816 _ (sym (test .is-nested .ensures) ∙ c .before .if5 .taken) (low-kept (test .before)))
+    (λ c κs. search needs) (λ c. c .at6 .ensures ∙ refuses 3072 _ (ap not (ne-eqb _ _ (c .before .if6 .taken))) (outer (c .before .before)))
+    (λ c. search needs) (λ c κs. search needs) (λ c κs. search needs)
+    (λ c. let test = c .before .before in c .at7 .ensures ∙ refuses 3074 _ (asked (test .canonical .ensures) (c .before .if7 .taken)) (set (test .before .before)))
     (λ c. search needs) (λ c. search needs) (λ c κs. search needs) (λ c κs. search needs) (λ c κs. search needs) outside nothing)

@@ -6,7 +6,7 @@ use Rattle.rules.specs.Commands.{rowCount}
 use Rattle.rules.specs.Uses.{usesByRow, accessOf}
 use Rattle.rows.proofs.RowLaws.{past}
 use Rattle.search.specs.Search.{wrongAt}
-use Rattle.search.proofs.SearchLaws.{finds-nothing, written-out}
+use Rattle.search.proofs.SearchLaws.{finds-nothing, bases-unasked, written-out}
 use Rattle.search.proofs.by_row.first_range.Statement.{statement}
 use Rattle.search.proofs.by_row.first_range.Tie as tie
 
@@ -33,7 +33,7 @@ first-range-spec =
     (λ c. rw (c .before .match .keys7) (c .first-wrong4 .ensures))
     (λ c. rw (c .before .match .keys8) (c .first-wrong5 .ensures))
     (λ c. rw (c .match .keys9) (finds-nothing _ _ _ _ (λ k j. refl)))
-    (λ c. rw (c .match .keys10) (finds-nothing _ _ _ _ (λ k j. refl)))
+    (λ c. let start = c .before .before in rw (c .match .keys10) (finds-nothing _ _ _ _ (bases-unasked (start .args .w) (start .args .command .now))))
     (λ c. rw (c .before .match .keys11) (c .first-wrong6 .ensures))
     (λ c. rw (c .match .keys12) (finds-nothing _ _ _ _ (λ k j. refl)))
     (λ c. rw (c .before .match .keys13) (c .first-wrong7 .ensures))
