@@ -1,4 +1,4 @@
-/* The second opinion: two checkers and a reader of capture files in plain C, with the calls of lungevati.h. */
+/* The second opinion: two checkers, a reader of capture files and a writer of commands in plain C, with the calls of lungevati.h. */
 #ifndef CHECKER_H
 #define CHECKER_H
 
@@ -18,5 +18,9 @@ struct lungevati_answer fast_check(const uint32_t *batch, size_t batch_len, uint
 struct lungevati_contents other_read(const uint8_t *file, size_t file_len,
                                      uint32_t *batch, size_t batch_len,
                                      uint32_t *state, size_t state_len);
+
+/* The writer of commands, in a file of its own (writer.c). */
+struct lungevati_answer other_write(uint32_t row, uint32_t free_bits, const uint32_t *dwords, size_t dwords_len,
+                                    uint32_t *batch, size_t batch_len, size_t first);
 
 #endif

@@ -7,7 +7,8 @@
 enum {
     LENT_MOST = 4096 + 1024,           /* dwords of a window: past the limit too */
     RECORDS_MOST = 70000,              /* past the budget of 65,536 commands too */
-    FILE_MOST = 40 + 4 * 2 * 4096 + 200 /* bytes: past the limit too */
+    FILE_MOST = 40 + 4 * 2 * 4096 + 200, /* bytes: past the limit too */
+    WRITE_MOST = 65536 + 512           /* dwords behind a header: far past any row's, and past what 16 bits count */
 };
 
 struct capture {

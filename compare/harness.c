@@ -1,6 +1,6 @@
 /*
- * Both engines of the proved checker, and the fast checker in C, against the second opinion.
- *   harness N SEED          document 01's cases and the sweeps, then N captures and files made from SEED
+ * Both engines of the proved checker, the proved writer and the fast checker in C, against the second opinion.
+ *   harness N SEED          document 01's cases and the sweeps, then N captures and files made from SEED, and commands to be written
  *   harness N SEED CASE     only that one of the N, and shows it
  * Exit status 1 at the first difference, or where a number was met too rarely for the comparison to say much of it.
  */
@@ -8,27 +8,28 @@
 #include "checker.h"
 #include "streamer.h"
 
-enum { GUARD = 16, NUMBERS = 22, ROWS = 18, SECONDS = 60 };
+enum { GUARD = 16, ROWS = 18 };
 
-static uint32_t lent_batch[GUARD + LENT_MOST + GUARD], lent_state[GUARD + LENT_MOST + GUARD];
+static uint32_t lent_batch[GUARD + LENT_MOST + GUARD], lent_state[GUARD + LENT_MOST + GUARD], lent_dwords[GUARD + WRITE_MOST + GUARD];
 static uint8_t lent_file[GUARD + FILE_MOST + GUARD];
 
 /* What is lent to be written: once to each side, and as it was before. */
 struct room {
     uint32_t proved[GUARD + RECORDS_MOST + GUARD], other[GUARD + RECORDS_MOST + GUARD], before[GUARD + RECORDS_MOST + GUARD];
 };
-static struct room records, batch_room, state_room;
+static struct room records, batch_room, state_room, write_room;
 
 static uint64_t asked; /* calls so far */
 
-struct lungevati_answer last_answer;
-const uint32_t *const last_records = records.other + GUARD;
+struct lungevati_answer last_answer, last_write;
+const uint32_t *const last_records = records.other + GUARD, *const last_buffer = write_room.other + GUARD;
 
 static const char *const words_for[NUMBERS] = {
     "accepted", "counts", "address not on a page", "window too high", "windows share a byte", "65,536 commands, no end",
     "ran out of the batch", "header not in the table", "length field", "goes past the batch", "bit not allowed",
     "start in a second-level batch", "value rule", "address range", "no dynamic base", "structure nowhere",
-    "structure bit", "structure value", "record buffer full", "file size", "file's distance", "lent buffer too short"};
+    "structure bit", "structure value", "record buffer full", "file size", "file's distance", "lent buffer too short",
+    "no room for the command"};
 
 /* ---- Lent memory ---- */
 
@@ -53,29 +54,41 @@ static void lend_room(struct room *r, size_t len, struct dice *d)
         r->proved[i] = r->other[i] = r->before[i] = (uint32_t)(dice_roll(d) >> 32);
 }
 
+/* The same for the many commands that are written, where rolling each word would take longer than the call: a step for each. */
+static void lend_steps(struct room *r, size_t len, uint64_t from)
+{
+    for (size_t i = 0; i < GUARD + len + GUARD; i++)
+        r->proved[i] = r->other[i] = r->before[i] = (uint32_t)from + (uint32_t)i * 0x9E3779B1;
+}
+
 /* The proved side's words are again as they were before, for another engine. */
 static void lend_again(struct room *r, size_t len)
 {
     for (size_t i = 0; i < GUARD + len + GUARD; i++) r->proved[i] = r->before[i];
 }
 
-/* Both sides left the same words, and all but the first `written` are those that were lent. */
-static int same_room(const struct room *r, const char *name, size_t len, size_t written)
+static uint32_t differing(const uint32_t *a, const uint32_t *b, size_t from, size_t to)
 {
-    for (size_t i = 0; i < GUARD + len + GUARD; i++) {
-        uint32_t was = i >= GUARD && i < GUARD + written ? r->other[i] : r->before[i];
-        if (r->proved[i] == r->other[i] && r->other[i] == was) continue;
-        printf("DIFFERENT: word %ld of %s (%lu lent, %lu to be written): proved %08x, other %08x, before %08x\n",
-               (long)i - GUARD, name, (unsigned long)len, (unsigned long)written, r->proved[i], r->other[i], r->before[i]);
-        return 0;
-    }
-    return 1;
+    uint32_t differ = 0;
+    for (size_t i = from; i < to; i++) differ |= a[i] ^ b[i];
+    return differ;
+}
+
+/* Both sides left the same words, and all but those `written` from `first` on are those that were lent. */
+static int same_room(const struct room *r, const char *name, size_t len, size_t first, size_t written)
+{
+    size_t end = GUARD + len + GUARD, from = written ? GUARD + first : end, to = written ? from + written : end;
+    if (!(differing(r->proved, r->other, 0, end) | differing(r->other, r->before, 0, from) | differing(r->other, r->before, to, end))) return 1;
+    size_t i = 0;
+    while (r->proved[i] == r->other[i] && (r->other[i] == r->before[i] || (i >= from && i < to))) i++;
+    printf("DIFFERENT: word %ld of %s (%lu lent, %lu to be written): proved %08x, other %08x, before %08x\n", (long)i - GUARD, name,
+           (unsigned long)len, (unsigned long)written, r->proved[i], r->other[i], r->before[i]);
+    return 0;
 }
 
 /* ---- Where a run stopped, for the table ---- */
 
-/* The dword after the records' last command, as the walk goes on. */
-static uint32_t position_after(const struct capture *c, const uint32_t *recs, uint32_t count)
+uint32_t position_after(const struct capture *c, const uint32_t *recs, uint32_t count)
 {
     uint32_t at = 0, kept = 0;
     for (uint32_t i = 0; i < count; i++) {
@@ -157,10 +170,10 @@ static const struct engine {
                {"the fast checker", "the fast checker's records", fast_check}};
 enum { ENGINES = sizeof engines / sizeof engines[0] };
 
-static int same_answer(const char *engine, struct lungevati_answer p, struct lungevati_answer o)
+static int same_answer(const char *call, const char *who, struct lungevati_answer p, struct lungevati_answer o)
 {
     if (p.reason == o.reason && p.window == o.window && p.index == o.index && p.count == o.count) return 1;
-    printf("DIFFERENT: check: %s reason %u window %u index %u count %u, other reason %u window %u index %u count %u\n", engine,
+    printf("DIFFERENT: %s: %s reason %u window %u index %u count %u, other reason %u window %u index %u count %u\n", call, who,
            p.reason, p.window, p.index, p.count, o.reason, o.window, o.index, o.count);
     return 0;
 }
@@ -178,8 +191,8 @@ int same_check(const struct capture *c, uint64_t seed, struct tally *t)
     last_answer = o;
     for (uint32_t e = 0; e < ENGINES; e++) {
         lend_again(&records, c->records_len);
-        if (!same_answer(engines[e].name, ask(engines[e].check, c, records.proved), o)) return 0;
-        if (!same_room(&records, engines[e].records, c->records_len, o.count)) return 0;
+        if (!same_answer("check", engines[e].name, ask(engines[e].check, c, records.proved), o)) return 0;
+        if (!same_room(&records, engines[e].records, c->records_len, 0, o.count)) return 0;
     }
     if (!unchanged(lent_batch, c->batch, c->batch_len) || !unchanged(lent_state, c->state, c->state_len)) {
         printf("DIFFERENT: a lent window was written\n");
@@ -224,8 +237,35 @@ int same_read(const struct capture_file *f, uint64_t seed, struct tally *t)
             printf("DIFFERENT: the file was written\n");
             return 0;
         }
-    return same_contents(p, o) && same_room(&batch_room, "the batch buffer", f->batch_room, o.batch_count) &&
-           same_room(&state_room, "the state buffer", f->state_room, o.state_count);
+    return same_contents(p, o) && same_room(&batch_room, "the batch buffer", f->batch_room, 0, o.batch_count) &&
+           same_room(&state_room, "the state buffer", f->state_room, 0, o.state_count);
+}
+
+/* What both writers leave is the same; and a command stands there only if it is said to, and then where it was asked for. */
+static int same_written(const struct writing *w, struct lungevati_answer p, struct lungevati_answer o)
+{
+    size_t written = o.reason ? 0 : 1 + w->dwords_len;
+    if (!same_answer("write", "proved", p, o)) return 0;
+    if (!same_room(&write_room, "the buffer that is written to", w->batch_len, w->first, written)) return 0;
+    if (!unchanged(lent_dwords, w->dwords, w->dwords_len)) return printf("DIFFERENT: the dwords to be written were changed\n"), 0;
+    if (o.window == 0 && o.index == 0 && o.count == (o.reason == 0)) return 1;
+    return printf("DIFFERENT: both writers answer reason %u window %u index %u count %u\n", o.reason, o.window, o.index, o.count), 0;
+}
+
+int same_write(const struct writing *w, uint64_t seed, struct tally *t)
+{
+    asked++;
+    for (size_t i = 0; i < w->dwords_len; i++) lent_dwords[GUARD + i] = w->dwords[i]; /* about them stand those of earlier commands */
+    lend_steps(&write_room, w->batch_len, seed * 0xD1342543DE82EF95 >> 32);
+
+    struct lungevati_answer p = lungevati_write(w->row, w->free_bits, lent_dwords + GUARD, w->dwords_len,
+                                                write_room.proved + GUARD, w->batch_len, w->first);
+    struct lungevati_answer o = other_write(w->row, w->free_bits, lent_dwords + GUARD, w->dwords_len,
+                                            write_room.other + GUARD, w->batch_len, w->first);
+    last_write = o;
+    t->written[o.reason]++;
+    if (o.reason == 0) t->wrote[w->row]++;
+    return same_written(w, p, o);
 }
 
 /* ---- Many ---- */
@@ -235,7 +275,8 @@ static int same_case(uint64_t seed, uint64_t number, struct capture *c, struct t
     static struct capture_file f;
     generate(c, seed, number);
     generate_file(&f, c, seed, number);
-    return same_check(c, seed + number, t) && same_read(&f, seed + number, t);
+    return same_check(c, seed + number, t) && write_back(c, seed + number, t) && same_read(&f, seed + number, t) &&
+           random_writes(seed, number, t);
 }
 
 static void show(const struct capture *c)
@@ -251,20 +292,21 @@ static void show(const struct capture *c)
 
 static void print_numbers(const struct tally *t)
 {
-    printf("\n  no.     check      read\n");
+    printf("\n  no.     check      read     write\n");
     for (uint32_t i = 0; i < NUMBERS; i++)
-        printf("%5u %9lu %9lu  %s\n", i, (unsigned long)t->checked[i], (unsigned long)t->read[i], words_for[i]);
+        printf("%5u %9lu %9lu %9lu  %s\n", i, (unsigned long)t->checked[i], (unsigned long)t->read[i], (unsigned long)t->written[i],
+               words_for[i]);
 }
 
 static void print_rows(const struct tally *t)
 {
-    printf("\n  row accepted lengths   refused as   7     8     9    10    11    12    13    14    15    16    17    18\n");
+    printf("\n  row accepted lengths  written   refused as   7     8     9    10    11    12    13    14    15    16    17    18\n");
     for (uint32_t row = 0; row <= ROWS; row++) {
         if (row < ROWS)
-            printf("%5u %8lu %3lu..%-3lu            ", row, (unsigned long)t->commands[row], (unsigned long)t->shortest[row],
-                   (unsigned long)t->longest[row]);
+            printf("%5u %8lu %3lu..%-3lu %8lu            ", row, (unsigned long)t->commands[row], (unsigned long)t->shortest[row],
+                   (unsigned long)t->longest[row], (unsigned long)t->wrote[row]);
         else
-            printf(" none                           ");
+            printf(" none                                    ");
         for (uint32_t number = 7; number <= 18; number++) printf(" %5lu", (unsigned long)t->by_row[row][number]);
         printf("\n");
     }
@@ -275,10 +317,10 @@ static int often_enough(const struct tally *t, uint64_t least)
 {
     int enough = 1;
     for (uint32_t i = 0; i < NUMBERS; i++) {
-        int by_check = i <= 18, by_read = i <= 1 || i >= 19;
-        if ((by_check && t->checked[i] < least) || (by_read && t->read[i] < least)) {
-            printf("TOO FEW: number %u was met %lu times by check and %lu by read, and %lu are asked for\n", i,
-                   (unsigned long)t->checked[i], (unsigned long)t->read[i], (unsigned long)least);
+        int by_check = i <= 18, by_read = i <= 1 || (i >= 19 && i <= 21), by_write = i == 0 || i == 7 || i == 8 || i == 10 || i == 22;
+        if ((by_check && t->checked[i] < least) || (by_read && t->read[i] < least) || (by_write && t->written[i] < least)) {
+            printf("TOO FEW: number %u was met %lu times by check, %lu by read and %lu by write, and %lu are asked for\n", i,
+                   (unsigned long)t->checked[i], (unsigned long)t->read[i], (unsigned long)t->written[i], (unsigned long)least);
             enough = 0;
         }
     }
@@ -312,6 +354,13 @@ static void watch(void)
     for (int i = 0; i < 6; i++) signal(signals[i], stopped);
 }
 
+static uint64_t writes(const struct tally *t)
+{
+    uint64_t sum = 0;
+    for (uint32_t i = 0; i < NUMBERS; i++) sum += t->written[i];
+    return sum;
+}
+
 static int many(uint64_t count, uint64_t seed)
 {
     static struct capture c;
@@ -321,8 +370,8 @@ static int many(uint64_t count, uint64_t seed)
     alarm(SECONDS);
     sweeping = 1;
     if (!sweep(&swept)) return say_case(), 1;
-    printf("document 01's cases have their answers; %lu small captures and files, tried one by one, agree\n",
-           (unsigned long)asked);
+    printf("document 01's cases have their answers; %lu small captures and files, and %lu commands to be written, tried one by one, agree\n",
+           (unsigned long)(asked - writes(&swept)), (unsigned long)writes(&swept));
     sweeping = 0;
     for (at_case = 0; at_case < count; at_case++) {
         alarm(SECONDS);
@@ -335,6 +384,8 @@ static int many(uint64_t count, uint64_t seed)
     printf("\n%lu captures from seed %lu: proved, C and the fast C agree. ", (unsigned long)count, (unsigned long)seed);
     printf("%lu accepted runs streamed, %lu commands, %lu words stored.\n", (unsigned long)t.streamed, (unsigned long)t.steps,
            (unsigned long)t.stores);
+    printf("%lu commands to be written: proved and C agree, and what was written is read so. %lu of them are commands of the captures, written back.\n",
+           (unsigned long)writes(&t), (unsigned long)t.back);
     return !often_enough(&t, count / 200);
 }
 

@@ -1,4 +1,4 @@
-/* Both checkers on the same input: shared by the random captures (harness.c) and the fixed ones (sweep.c). */
+/* Both sides on the same input: shared by the random captures (harness.c), the fixed ones (sweep.c) and the commands to be written (writes.c). */
 #ifndef HARNESS_H
 #define HARNESS_H
 
@@ -11,12 +11,25 @@ void exit(int);
 unsigned alarm(unsigned);
 void (*signal(int, void (*)(int)))(int);
 
+enum { NUMBERS = 23 }; /* 0 and document 01's refusal numbers, with request 4's 22 */
+
+enum { SECONDS = 60 }; /* a call that takes longer does not return */
+
 /* How often each number was answered, and where. */
 struct tally {
-    uint64_t checked[22], read[22];
-    uint64_t by_row[19][22];                      /* row of the command that was refused; 18 where there is none */
+    uint64_t checked[NUMBERS], read[NUMBERS], written[NUMBERS];
+    uint64_t by_row[19][NUMBERS];                     /* row of the command that was refused; 18 where there is none */
     uint64_t commands[18], shortest[18], longest[18]; /* accepted commands */
+    uint64_t wrote[18];                               /* commands written */
     uint64_t streamed, steps, stores;
+    uint64_t back; /* commands of captures that were written back */
+};
+
+/* A command to be written: what the writer is told. */
+struct writing {
+    uint32_t row, free_bits;
+    size_t dwords_len, batch_len, first;
+    uint32_t dwords[WRITE_MOST];
 };
 
 /*
@@ -25,12 +38,24 @@ struct tally {
  */
 int same_check(const struct capture *c, uint64_t seed, struct tally *t);
 int same_read(const struct capture_file *f, uint64_t seed, struct tally *t);
+int same_write(const struct writing *w, uint64_t seed, struct tally *t);
 
-/* The answer and the records of the last same_check. */
-extern struct lungevati_answer last_answer;
-extern const uint32_t *const last_records;
+/* The answer and the records of the last same_check; the answer of the last same_write, and its buffer. */
+extern struct lungevati_answer last_answer, last_write;
+extern const uint32_t *const last_records, *const last_buffer;
 
 /* Document 01's cases, and every code, bit and length that can be tried one by one. 0: a difference, which is printed. */
 int sweep(struct tally *t);
+
+/*
+ * Commands to be written (writes.c): each row at each count, each refusal at its edges and each bit, one by one; some at random, from a stream of
+ * their own; and those of the capture that same_check was asked last. 0: a difference, which is printed.
+ */
+int sweep_writes(struct tally *t);
+int random_writes(uint64_t seed, uint64_t number, struct tally *t);
+int write_back(const struct capture *c, uint64_t seed, struct tally *t);
+
+/* The dword after the records' last command, as the walk goes on. */
+uint32_t position_after(const struct capture *c, const uint32_t *recs, uint32_t count);
 
 #endif

@@ -40,23 +40,26 @@ kit_archives() {
     kit_calls="$top/target/staticlib/libapi.a $top/target/staticlib/libapi_table.a"
 }
 
-# kit_as ENGINE OBJECT SOURCE [FLAG...]: a checker in C under other names, in the place of the engine plain or table, or of the fast checker
+# kit_as ENGINE OBJECT SOURCE [FLAG...]: a checker in C under other names, in the place of the engine plain or table, or of the fast checker; or the
+# writer in C in the place of the proved writer
 kit_as() {
     case $1 in
         plain) kit_names='-Dother_check=lungevati_check -Dother_read=lungevati_read' ;;
         table) kit_names='-Dother_check=lungevati_check_table -Dother_read=unused_read' ;;
         fast) kit_names='-Dother_check=fast_check -Dother_read=unused_fast_read' ;;
+        writer) kit_names='-Dother_write=lungevati_write' ;;
     esac
     shift
-    # shellcheck disable=SC2086 # two words
+    # shellcheck disable=SC2086 # a list of names
     kit_compile "$@" $kit_names
 }
 
-# kit_self FOLDER [FLAG...]: the second opinion itself in the place of both engines
+# kit_self FOLDER [FLAG...]: the second opinion itself in the place of both engines and of the proved writer
 kit_self() {
     kit_folder=$1
     shift
     kit_as plain "$kit_folder/self.o" "${top:?}/compare/checker.c" "$@" || return
     kit_as table "$kit_folder/self_table.o" "$top/compare/checker.c" "$@" || return
-    kit_calls="$kit_folder/self.o $kit_folder/self_table.o"
+    kit_as writer "$kit_folder/self_writer.o" "$top/compare/writer.c" "$@" || return
+    kit_calls="$kit_folder/self.o $kit_folder/self_table.o $kit_folder/self_writer.o"
 }

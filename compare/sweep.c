@@ -623,6 +623,8 @@ static int sweep_files(void)
 int sweep(struct tally *t)
 {
     tally = t;
+    if (!sweep_writes(t)) return 0;
+    alarm(SECONDS);
     return sweep_cases() && sweep_samples() && sweep_lengths() && sweep_codes() && sweep_primitive() && sweep_addresses() && sweep_highs() &&
            sweep_structures() && sweep_blends() && sweep_pointers(16) && sweep_pointers(17) && sweep_pointers(BLEND_SAMPLE) &&
            sweep_windows() && sweep_many() && sweep_files();

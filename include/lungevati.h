@@ -1,8 +1,9 @@
 /*
- * Lungevati from C: the proved checker of captured GPU command buffers. Archive libapi.a, made by `rt staticlib api`, has lungevati_check and
- * lungevati_read; libapi_table.a, made by `rt staticlib api_table`, has lungevati_check_table. Both link into one program.
+ * Lungevati from C: the proved checker of captured GPU command buffers, and the proved writer of commands. Archive libapi.a, made by
+ * `rt staticlib api`, has lungevati_check, lungevati_read and lungevati_write; libapi_table.a, made by `rt staticlib api_table`, has
+ * lungevati_check_table. Both link into one program.
  *
- * The numbers, places and rules are those of document 01. A reason is 0 (accepted, or read) or one of its refusal numbers.
+ * The numbers, places and rules are those of document 01. A reason is 0 (accepted, read, or written) or one of its refusal numbers.
  * Each call returns whatever comes in, allocates nothing and keeps nothing between calls.
  *
  * The caller promises what no checker can test: each pointer is valid for the length given with it, and not null even
@@ -35,7 +36,7 @@ typedef __UINT64_TYPE__ uint64_t;
 extern "C" {
 #endif
 
-/* What the walk over a capture found. */
+/* What the walk over a capture found. The writer of commands answers in the same form, and says itself what the four numbers are there. */
 struct lungevati_answer {
     uint32_t reason; /* 0 accepted, else 1 to 18 */
     uint32_t window; /* where: 0 the batch window, 1 the state window */
@@ -95,6 +96,34 @@ struct lungevati_contents {
 struct lungevati_contents lungevati_read(const uint8_t *file, size_t file_len,
                                          uint32_t *batch, size_t batch_len,
                                          uint32_t *state, size_t state_len);
+
+/*
+ * Writes one command, from its row and what is not fixed in it, at the first free dword of a lent buffer.
+ *
+ *   row             the row of the table, 0 to 17, as a record and the printout have it
+ *   free_bits       the free bits of the header, at their places: row 0 has bits 21:0, row 2 bits 22 and 8, row 4 bit 21, row 16 bits 10:8, and
+ *                   all others have none
+ *   dwords          what follows the header, only read: dwords_len dwords. The header's length field comes from their number
+ *   batch           a buffer of batch_len dwords, which may be any number, also 0 and more than a batch window has
+ *   first           where in it the header goes: its first free dword
+ *
+ * On reason 0 the command stands in `batch` from word `first` on, 1 + dwords_len words: the header and then the dwords. Every other word of the
+ * buffer is as it was. The checker reads the same row, free bits and dwords there, and refuses them by none of 7, 8, 9 and 10; and each command
+ * that 7, 8 and 10 let pass can be written so. The other rules are not asked here: what is written may still be refused by 11 to 18.
+ *
+ * Otherwise it is refused, tried in this order, and every word of the buffer is as it was:
+ *
+ *   7     there is no such row
+ *   8     the row does not have so many dwords; or, in row 4, bit 21 of free_bits, which stands for one dword more, says otherwise
+ *   10    a bit of free_bits is none of the row's free bits (nor may it be one of those that the row is known by, or of the length field); or a
+ *         bit of a dword is one that lungevati_check would refuse by 10: so the high dword of an address that is used may be anything, and that
+ *         of one that is not used may have bits 15:0
+ *   22    there is no room: first + 1 + dwords_len, by the exact sum, is more than batch_len
+ *
+ * The window and the index are always 0; the count is 1 on reason 0, and else 0. `dwords` and `batch` must not overlap.
+ */
+struct lungevati_answer lungevati_write(uint32_t row, uint32_t free_bits, const uint32_t *dwords, size_t dwords_len,
+                                        uint32_t *batch, size_t batch_len, size_t first);
 
 #ifdef __cplusplus
 }

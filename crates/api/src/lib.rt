@@ -1,6 +1,7 @@
 // The calls for programs in C: thin exports over the proved library. include/lungevati.h declares them.
 ghost use mathlib.Core.Path.{_≡_};
 ghost use Rattle.rules.specs.Records.{startingBase, Checked};
+ghost use Rattle.rules.specs.Writer.{Written};
 ghost use Rattle.walk.specs.Lent.{lentCapture};
 ghost use Rattle.api.specs.Read.{Small, flatOf, ReadOut};
 use rules::Answer;
@@ -85,4 +86,18 @@ pub extern "C" fn lungevati_read(file: &[u8], batch: &mut [u32], state: &mut [u3
     ensures { λ r. ⌜ ReadOut (now (file .entry)) (now (batch .entry)) (now (state .entry)) r (now (batch .exit)) (now (state .exit)) ⌝ }
 {
     flat(capture::read(file, batch, state))
+}
+
+// Writes a command into a lent buffer: `writer::write`, with its promise.
+#[no_mangle]
+pub extern "C" fn lungevati_write(
+    row: u32,
+    free_bits: u32,
+    dwords: &[u32],
+    batch: &mut [u32],
+    first: usize,
+) -> Answer
+    ensures { λ r. ⌜ Written row «free_bits» (now (dwords .entry)) first (now (batch .entry)) r (now (batch .exit)) ⌝ }
+{
+    writer::write(row, free_bits, dwords, batch, first)
 }

@@ -33,11 +33,11 @@ an-unlisted-file = refl
 
 -- 13 refused two, 19 one
 pub the-totals : totalsLine (record { accepted = 4; refused = 3; unread = 0; missing = 1; unlisted = 2 }) (replicate 13 0 ++ (2 ∷ 0 ∷ 0 ∷ 0 ∷ 0 ∷ 0 ∷ 1 ∷ 0 ∷ 0 ∷ 0 ∷ []))
-    ≡ bytes "{\"accepted\":4,\"refused\":3,\"unread\":0,\"missing\":1,\"unlisted\":2,\"reasons\":{\"13\":2,\"19\":1},\"rules\":\"01+1+2+3+6\"}\n"
+    ≡ bytes "{\"accepted\":4,\"refused\":3,\"unread\":0,\"missing\":1,\"unlisted\":2,\"reasons\":{\"13\":2,\"19\":1},\"rules\":\"01+1+2+3+4+6\"}\n"
 unfolding digitsOf reasonText reasonsOn countsText totalsLine
 the-totals = refl
 
 pub no-refusal : totalsLine (record { accepted = 1; refused = 0; unread = 0; missing = 0; unlisted = 0 }) (replicate 23 0)
-    ≡ bytes "{\"accepted\":1,\"refused\":0,\"unread\":0,\"missing\":0,\"unlisted\":0,\"reasons\":{},\"rules\":\"01+1+2+3+6\"}\n"
+    ≡ bytes "{\"accepted\":1,\"refused\":0,\"unread\":0,\"missing\":0,\"unlisted\":0,\"reasons\":{},\"rules\":\"01+1+2+3+4+6\"}\n"
 unfolding digitsOf reasonText reasonsOn countsText totalsLine
 no-refusal = refl

@@ -17,7 +17,7 @@ use Rattle.json.specs.Strings.{quoted}
 
 -- the rules that are checked: document 01 with requests 1, 2, 3 and 6, by number. Each landing changes it, here and in `RULES`
 abbrev pub rulesText : List ℕ
-rulesText = bytes "01+1+2+3+6"
+rulesText = bytes "01+1+2+3+4+6"
 
 unfoldable pub outcomeText : Outcome → List ℕ
 outcomeText Accepted = bytes "accepted"

@@ -31,7 +31,8 @@ use Rattle.plain_mi.specs.Plain.{coded, wrongOf, bareOf, noWindows}
 use Rattle.plain_mi.proofs.Bare.{Unasked, bare}
 use Rattle.plain_mi.proofs.Bounds.{AllNear, near-at, fault-near, verdictOf, verdict-near, Told, told, wrong-passes}
 use Rattle.plain_mi.proofs.Coding.{coded-passes}
-use Rattle.plain_mi.proofs.Headers.{header-bits, one-dword}
+use Rattle.rules.proofs.Used.{header-bits}
+use Rattle.plain_mi.proofs.Headers.{one-dword}
 use Rattle.plain_mi.proofs.Placing.{placed, own-placed, told-placed}
 use Rattle.plain_3d.specs.declared.Seen.{Seen}
 use Rattle.plain_3d.specs.Seeing.{OfType3, Sees}

@@ -21,23 +21,12 @@ use Rattle.rules.specs.Values.{noRule, ruleOf, highWrong, valueWrongOf, valueWr
 use Rattle.rules.specs.Addresses.{rangeWrong}
 use Rattle.rules.specs.Step.{nested}
 use Rattle.rules.proofs.Searching.{either, never-both}
-use Rattle.rules.proofs.Used.{header-no-high}
+use Rattle.rules.proofs.Used.{header-no-high, header-bits}
+use Rattle.rules.proofs.HeaderParts.{from-row}
 use Rattle.plain_mi.specs.Plain.{wrongOf, headOf, otherHeader}
 use Rattle.plain_mi.proofs.Lengths.{field-is, length-says, past-says, content-says}
 use Rattle.plain_mi.proofs.Content.{header-says}
 use Rattle.plain_mi.proofs.Tests.{tested, content, whole}
-
--- a header in a row has the row's key
-from-row : (key : ℕ) (rs : List Row) (i : ℕ) (x : Row) → rowFrom key rs ≡ i → i < length rs → key ≡ getD rs i x .key
-unfolding rowFrom
-from-row key [] i x e h = absurd (omega arith)
-from-row key (r ∷ rs) i x e h = by (eqb key (r .key)) refl e (λ l. from-row key rs (rowFrom key rs) x refl l)
-  where
-    by : (b : Bool) → eqb key (r .key) ≡ b → cond b 0 (suc (rowFrom key rs)) ≡ i
-        → (rowFrom key rs < length rs → key ≡ getD rs (rowFrom key rs) x .key)
-        → key ≡ getD (r ∷ rs) i x .key
-    by true t e later = eqb-true _ _ t ∙ ap (λ (j : ℕ). getD (r ∷ rs) j x .key) e
-    by false t e later = later (omega arith) ∙ ap (λ (j : ℕ). getD (r ∷ rs) j x .key) e
 
 key-at-most : (header : ℕ) → keyOf header ≤ header
 unfolding keyOf
@@ -53,10 +42,6 @@ unfolding allowed
 within-mask word mask e = omega (arith, and-le-r word mask, eqb-true (bitAnd word mask) word e)
 
 module _ (r : ℕ) (d : List ℕ) where
-  pub header-bits : bitWrong r d 0 ≡ not (allowed (getD d 0 0) (headerMask (theRow r)))
-  unfolding bitWrong allowedAt allowedOf masksOf inGroup
-  header-bits = rw (header-no-high r d 0)
-
   -- a header in a row that keeps its mask lies between the row's key and the mask; so one that cannot lie there has a wrong bit
   pub not-between : r < rowCount → rowOf (getD d 0 0) ≡ r
       → (bitWrong r d 0 ≡ false → theRow r .key ≤ getD d 0 0 → getD d 0 0 ≤ headerMask (theRow r) → ⊥)
@@ -66,7 +51,7 @@ module _ (r : ℕ) (d : List ℕ) where
       ⊎-elim (λ b. b)
       (λ b.
       let k : keyOf (getD d 0 0) ≡ theRow r .key = from-row (keyOf (getD d 0 0)) rows r _ q h in
-      absurd (n b (omega (arith, key-at-most (getD d 0 0))) (within-mask _ _ (not-false _ (sym header-bits ∙ b)))))
+      absurd (n b (omega (arith, key-at-most (getD d 0 0))) (within-mask _ _ (not-false _ (sym (header-bits r d) ∙ b)))))
       (either (bitWrong r d 0))
 
   -- without free bits and a field it is the key

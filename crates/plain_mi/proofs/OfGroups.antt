@@ -18,7 +18,8 @@ use Rattle.rules.proofs.Searching.{and-left}
 use Rattle.looks.specs.Looks.{contentOf}
 use Rattle.plain_mi.specs.Plain.{coded, wrongOf, groupsHeader, Groups}
 use Rattle.plain_mi.proofs.Lengths.{field-is, content-says}
-use Rattle.plain_mi.proofs.Headers.{header-bits, not-between, key-and-field, head-refuses, head-passes}
+use Rattle.rules.proofs.Used.{header-bits}
+use Rattle.plain_mi.proofs.Headers.{not-between, key-and-field, head-refuses, head-passes}
 
 -- a row of at most `most` groups of `size` dwords each, whose header is its key, 256 * m, and its field
 pub record GroupRow (r size most m : ℕ) : Type 0 where

@@ -20,7 +20,7 @@ use Rattle.rules.specs.declared.Fault.{Fault}
 use Rattle.rules.specs.declared.Reason.the-variants.{WrongCounts, AddressUnaligned, EndsTooHigh, WindowsShare, BudgetSpent, RanOff}
 use Rattle.rules.specs.declared.Reason.the-variants.{UnknownHeader, WrongLength, PastTheWindow, BitNotAllowed, NestedStart, ValueBroken}
 use Rattle.rules.specs.declared.Reason.the-variants.{RangeOutside, BaseNeverSet, StructureNowhere, StructureBit, StructureValue}
-use Rattle.rules.specs.declared.Reason.the-variants.{RecordsFull, FileSize, FileDistance, BufferShort}
+use Rattle.rules.specs.declared.Reason.the-variants.{RecordsFull, FileSize, FileDistance, BufferShort, NoRoom}
 use Rattle.rules.specs.Words.{firstOf}
 use Rattle.rules.specs.Refusals.{batchWindow, numberOf, fault, refuseIf, refuseFound}
 use Rattle.rules.specs.Commands.{rowCount, lengthRight}
@@ -95,7 +95,7 @@ reasonAt n =
     getD
     (WrongCounts ∷ WrongCounts ∷ AddressUnaligned ∷ EndsTooHigh ∷ WindowsShare ∷ BudgetSpent ∷ RanOff ∷ UnknownHeader ∷ WrongLength
     ∷ PastTheWindow ∷ BitNotAllowed ∷ NestedStart ∷ ValueBroken ∷ RangeOutside ∷ BaseNeverSet ∷ StructureNowhere ∷ StructureBit
-    ∷ StructureValue ∷ RecordsFull ∷ FileSize ∷ FileDistance ∷ BufferShort ∷ []) n WrongCounts
+    ∷ StructureValue ∷ RecordsFull ∷ FileSize ∷ FileDistance ∷ BufferShort ∷ NoRoom ∷ []) n WrongCounts
 
 by-number : (r : Reason) → reasonAt (numberOf r) ≡ r
 unfolding reasonAt numberOf
@@ -120,6 +120,7 @@ by-number RecordsFull = refl
 by-number FileSize = refl
 by-number FileDistance = refl
 by-number BufferShort = refl
+by-number NoRoom = refl
 
 same-reason : (r s : Reason) → numberOf r ≡ numberOf s → r ≡ s
 same-reason r s e = sym (by-number r) ∙ ap reasonAt e ∙ by-number s

@@ -3,3 +3,4 @@ pub mod Demand2
 pub mod Demand3
 pub mod Files
 pub mod BadVersions
+pub mod Writer

@@ -4,3 +4,4 @@ pub mod Demand3
 pub mod Engines
 pub mod Files
 pub mod Versions
+pub mod Writer

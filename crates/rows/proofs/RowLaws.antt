@@ -6,14 +6,17 @@ use mathlib.Core.Path.{_≡_, refl}
 use mathlib.Core.Bool.{Bool, true, false, cond, _||_}
 use mathlib.Core.List.{[]}
 use mathlib.Core.Logic.{⊎-elim}
-use lib.ListN.{List·getD-eq-default}
+use lib.ListN.{getD, List·getD-eq-default}
 use lib.Dec.{eqb, leb, ltb}
-use borrow.Author.Tests.{eq-eqb, ne-eqb, le-leb, lt-leb, le-ltb}
+use borrow.Author.Tests.{eqb-true, eq-eqb, ne-eqb, leb-true, le-leb, lt-leb, le-ltb}
 use Rattle.rules.specs.Words.{bit, field}
 use Rattle.rules.specs.Commands.{Length, noField, exactly, byBit, groups, rows, theRow, dwordCount, lengthOf, groupSize, lengthRight, rowCount}
+use Rattle.rules.specs.Masks.{masksOf}
 use Rattle.rows.specs.Groups.{groupsRight}
+use Rattle.rows.specs.Masks.{maskRows, maskTable}
 use Rattle.rules.proofs.Tables.{each, at-each}
 use Rattle.rules.proofs.Searching.{or-cases, never-both}
+use Rattle.rules.proofs.HeaderParts.{fielded}
 
 -- the shape of what a `match` over 0, 1, .. n - 1 leaves its last arm
 abbrev pub Rest : ℕ → ℕ → Type 0
@@ -30,18 +33,11 @@ unfolding rows theRow
 no-row r h = List·getD-eq-default rows _ h
 
 -- the rows that have a length field
-hasField : Length → Bool
-hasField noField = false
-hasField (exactly f) = true
-hasField (byBit b f g) = true
-hasField (groups n) = true
-
-fields-tested : each (λ r. hasField (theRow r .total) || (ltb r 2 || eqb r 8)) rowCount ≡ true
-unfolding each rows theRow hasField
+fields-tested : each (λ r. fielded (theRow r .total) || (ltb r 2 || eqb r 8)) rowCount ≡ true
+unfolding each rows theRow
 fields-tested = refl
 
-counted : (t : Length) (header : ℕ) → hasField t ≡ true → header % 256 + 2 ≡ dwordCount t header
-unfolding hasField
+counted : (t : Length) (header : ℕ) → fielded t ≡ true → header % 256 + 2 ≡ dwordCount t header
 counted noField header e = cc
 counted (exactly f) header e = omega arith
 counted (byBit b f g) header e = omega arith
@@ -51,7 +47,7 @@ pub length-counted : (r header : ℕ) → 2 ≤ r → (r ≡ 8 → ⊥) → r < 
 unfolding lengthOf
 length-counted r header l n h =
     counted (theRow r .total) header
-    (⊎-elim (λ e. e) (λ e. absurd (none r l n e)) (or-cases (hasField (theRow r .total)) _ (at-each (λ k. hasField (theRow k .total) || (ltb k 2 || eqb k 8)) rowCount fields-tested r h)))
+    (⊎-elim (λ e. e) (λ e. absurd (none r l n e)) (or-cases (fielded (theRow r .total)) _ (at-each (λ k. fielded (theRow k .total) || (ltb k 2 || eqb k 8)) rowCount fields-tested r h)))
   where
     none : (r : ℕ) → 2 ≤ r → (r ≡ 8 → ⊥) → (ltb r 2 || eqb r 8) ≡ true → ⊥
     none r l n e = never-both (rw (le-ltb r 2 l, ne-eqb r 8 n) at e) refl
@@ -112,3 +108,27 @@ groups-none f size most e h = rw (eq-eqb _ 0 e, lt-leb 1 ((f + 1) / size) h)
 pub groups-some : (f size most : ℕ) → (f + 1) % size ≡ 0 → 1 ≤ (f + 1) / size → leb ((f + 1) / size) most ≡ groupsRight f size most
 unfolding groupsRight
 groups-some f size most e h = rw (eq-eqb _ 0 e, le-leb 1 ((f + 1) / size) h)
+
+-- no group has more than fifteen dwords
+sizes-tested : each (λ r. leb (groupSize r) 15) rowCount ≡ true
+unfolding each rows theRow groupSize
+sizes-tested = refl
+
+pub size-small : (r : ℕ) → r < rowCount → groupSize r ≤ 15
+size-small r h = leb-true _ _ (at-each (λ k. leb (groupSize k) 15) rowCount sizes-tested r h)
+
+-- the table that the code lends has each row's masks, and allows nothing past them
+masks-tested : each (λ r. each (λ j. eqb (getD (getD maskTable r []) j 0) (getD (masksOf r) j 0)) 16) rowCount ≡ true
+unfolding each rows theRow masksOf maskRows maskTable
+masks-tested = refl
+
+pub table-mask : (r j : ℕ) → r < rowCount → j < 16 → getD (getD maskTable r []) j 0 ≡ getD (masksOf r) j 0
+table-mask r j h k =
+    eqb-true _ _
+    (at-each (λ j. eqb (getD (getD maskTable r []) j 0) (getD (masksOf r) j 0)) 16
+    (at-each (λ r. each (λ j. eqb (getD (getD maskTable r []) j 0) (getD (masksOf r) j 0)) 16) rowCount masks-tested r h) j k)
+
+-- where there is a dword behind the header, a group has dwords
+pub some-size : (size len : ℕ) → (size ≡ 0 → len ≤ 1) → 1 < len → 0 < size
+some-size zero len n h = absurd (omega (arith, n refl))
+some-size (suc size) len n h = omega arith

@@ -8,6 +8,7 @@ ghost use Rattle.rules.specs.Commands.{rows, rowFrom, rowOf, lengthOf, groupSiz
 ghost use Rattle.rows.specs.Groups.{groupsRight};
 ghost use Rattle.rows.specs.Masks.{maskTable};
 
+pub mod headers;
 mod masks;
 
 use masks::MASKS;

@@ -84,7 +84,7 @@ key-0 header k e h =
     let t : field header 31 29 ≡ 0 = omega arith in
     rw (eq-eqb _ 0 t, e)
 
-of-type-3 : (header : ℕ) → header < 2 ^ 32 → 2 ^ 29 ≤ header → rowFrom (header / 2 ^ 16 * 2 ^ 16) rows ≡ rowOf header
+pub of-type-3 : (header : ℕ) → header < 2 ^ 32 → 2 ^ 29 ≤ header → rowFrom (header / 2 ^ 16 * 2 ^ 16) rows ≡ rowOf header
 unfolding rowOf keyOf
 of-type-3 header f h = let t : (field header 31 29 ≡ 0 → ⊥) = λ e. omega arith in rw (ne-eqb _ 0 t)
 

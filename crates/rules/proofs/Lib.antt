@@ -17,3 +17,5 @@ pub mod Recording
 pub mod Listing
 pub mod Readings
 pub mod Deciding
+pub mod HeaderParts
+pub mod Writing

@@ -3,7 +3,7 @@
 use Prim.Native.Nat.{ℕ, _+_, _-_, _*_, _/_, _≤_, _<_}
 use native.Mathlib.Omega.{arith}
 use mathlib.Core.Path.{_≡_, refl, sym, _∙_}
-use mathlib.Core.Bool.{Bool, true, false, cond, not, _&&_}
+use mathlib.Core.Bool.{Bool, true, false, cond, not, _&&_, _||_}
 use mathlib.Core.List.{List, [], _∷_}
 use mathlib.Core.Logic.{_⊎_, inl, inr, ⊎-elim}
 use lib.ListN.{length, getD}
@@ -26,15 +26,17 @@ use Rattle.rules.specs.declared.Verdict.the-variants.{Pass, Fails}
 use Rattle.rules.specs.declared.Reason.{Reason}
 use Rattle.rules.specs.declared.Reason.the-variants.{WrongCounts, AddressUnaligned, EndsTooHigh, WindowsShare, RanOff}
 use Rattle.rules.specs.declared.Reason.the-variants.{UnknownHeader, WrongLength, PastTheWindow, NestedStart}
-use Rattle.rules.specs.declared.Reason.the-variants.{FileSize, FileDistance, BufferShort}
-use Rattle.rules.specs.Words.{bit, some, someTwo, firstOf}
+use Rattle.rules.specs.declared.Reason.the-variants.{BitNotAllowed, FileSize, FileDistance, BufferShort, NoRoom}
+use Rattle.rules.specs.Words.{bit, allowed, some, someTwo, firstOf}
+use Rattle.rules.specs.Masks.{bitWrong}
 use Rattle.rules.specs.Refusals.{batchWindow, stateWindow, fault, refuseIf, refuseFound, tried, firstFault}
 use Rattle.rules.specs.Windows.{Capture, Lengths, windowLimit, listed, countsWrong, unaligned, endsTooHigh, shareByte, windowChecks, windowFault, lent, holds, holdsDwords, heldAt}
-use Rattle.rules.specs.Commands.{exactly, rows, rowCount, theRow, lengthOf, lengthRight}
+use Rattle.rules.specs.Commands.{exactly, rows, rowCount, theRow, lengthOf, groupSize, lengthRight}
 use Rattle.rules.specs.Structures.{Asked, askedAt, layoutOf, nowhere, heldWindow, heldFrom, structureNowhere, structureBit, structureValue, structureChecks}
 use Rattle.rules.specs.Step.{here, headerAt, rowAt, lengthAt, dwordsAt, pointerOf, nested, baseMissing, pointed}
 use Rattle.rules.specs.Step.{ranOff, unknownHeader, wrongLength, pastTheWindow, bitNotAllowed, nestedStart, valueBroken}
 use Rattle.rules.specs.Step.{rangeOutside, baseNeverSet, stepChecks, stepOf}
+use Rattle.rules.specs.Writer.{Draft, countRight, commandFor, someFrom, rowUnknown, countWrong, bitStray, roomShort, writeChecks, writeVerdict}
 use Rattle.rules.specs.File.{Offer, sizeWrong, distanceWrong, fileCountsWrong, bufferShort, fileChecks}
 use Rattle.rules.proofs.Searching.{never-both, first-found, and-left}
 use Rattle.rules.proofs.Trying.{fails-not-pass, same-fault, stays-failed, refuse-passes}
@@ -281,3 +283,18 @@ unfolding fileChecks
 file-place o =
     list-says AtZero fileChecks o
     (zeros (sizeWrong o) FileSize, (zeros (distanceWrong o) FileDistance, (zeros (fileCountsWrong o) WrongCounts, (zeros (bufferShort o) BufferShort, tt))))
+
+-- and those of the writer
+pub write-place : (d : Draft) (f : Fault) → writeVerdict d ≡ Fails f → AtZero f
+unfolding writeChecks rowUnknown countWrong bitStray roomShort
+write-place d =
+    list-says AtZero writeChecks d (
+      zeros (leb rowCount (d .row)) UnknownHeader,
+      (
+        zeros (not (countRight (theRow (d .row) .total) (groupSize (d .row)) (d .free) (length (d .dwords)))) WrongLength,
+        (
+          zeros (not (allowed (d .free) (theRow (d .row) .free)) || someFrom (bitWrong (d .row) (commandFor d)) 1 (length (d .dwords))) BitNotAllowed,
+          (zeros (ltb (d .room) (d .first + (1 + length (d .dwords)))) NoRoom, tt),
+        ),
+      ),
+    )

@@ -12,7 +12,7 @@ use Rattle.rules.specs.declared.Reason.{Reason}
 use Rattle.rules.specs.declared.Reason.the-variants.{WrongCounts, AddressUnaligned, EndsTooHigh, WindowsShare, BudgetSpent, RanOff}
 use Rattle.rules.specs.declared.Reason.the-variants.{UnknownHeader, WrongLength, PastTheWindow, BitNotAllowed, NestedStart, ValueBroken}
 use Rattle.rules.specs.declared.Reason.the-variants.{RangeOutside, BaseNeverSet, StructureNowhere, StructureBit, StructureValue}
-use Rattle.rules.specs.declared.Reason.the-variants.{RecordsFull, FileSize, FileDistance, BufferShort}
+use Rattle.rules.specs.declared.Reason.the-variants.{RecordsFull, FileSize, FileDistance, BufferShort, NoRoom}
 use Rattle.rules.specs.declared.Verdict.{Verdict}
 use Rattle.rules.specs.declared.Verdict.the-variants.{Pass, Fails}
 use Rattle.rules.specs.Windows.{Capture}
@@ -69,6 +69,7 @@ above-zero RecordsFull = lit< tt
 above-zero FileSize = lit< tt
 above-zero FileDistance = lit< tt
 above-zero BufferShort = lit< tt
+above-zero NoRoom = lit< tt
 
 pub zero-is-pass : (v : Verdict) (n : ℕ) → answerWith v n .reason ≡ 0 → v ≡ Pass
 unfolding answerWith

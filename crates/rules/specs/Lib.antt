@@ -11,9 +11,11 @@ pub mod Structures
 pub mod Step
 pub mod Walk
 pub mod Records
+pub mod Writer
 pub mod File
 pub mod Printout
 pub mod Book
 pub mod Cases
 pub mod BlendCases
 pub mod CanonicalCases
+pub mod WriterCases

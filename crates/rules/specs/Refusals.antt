@@ -6,7 +6,7 @@ use mathlib.Core.List.{List, [], _∷_, _++_}
 use Rattle.rules.specs.declared.Reason.{Reason}
 use Rattle.rules.specs.declared.Reason.the-variants.{WrongCounts, AddressUnaligned, EndsTooHigh, WindowsShare, BudgetSpent, RanOff, UnknownHeader, WrongLength}
 use Rattle.rules.specs.declared.Reason.the-variants.{PastTheWindow, BitNotAllowed, NestedStart, ValueBroken, RangeOutside, BaseNeverSet, StructureNowhere}
-use Rattle.rules.specs.declared.Reason.the-variants.{StructureBit, StructureValue, RecordsFull, FileSize, FileDistance, BufferShort}
+use Rattle.rules.specs.declared.Reason.the-variants.{StructureBit, StructureValue, RecordsFull, FileSize, FileDistance, BufferShort, NoRoom}
 use Rattle.rules.specs.declared.Fault.{Fault}
 use Rattle.rules.specs.declared.Verdict.{Verdict}
 use Rattle.rules.specs.declared.Verdict.the-variants.{Pass, Fails}
@@ -14,7 +14,7 @@ use Rattle.rules.specs.declared.Found.{Found}
 use Rattle.rules.specs.declared.Found.the-variants.{At, Nothing}
 use Rattle.rules.specs.declared.Answer.{Answer}
 
--- the table's column "No.", and 19 to 21 of the capture file
+-- the table's column "No.", 19 to 21 of the capture file, and 22 of request 4
 unfoldable pub numberOf : Reason → ℕ
 numberOf WrongCounts = 1
 numberOf AddressUnaligned = 2
@@ -37,6 +37,7 @@ numberOf RecordsFull = 18
 numberOf FileSize = 19
 numberOf FileDistance = 20
 numberOf BufferShort = 21
+numberOf NoRoom = 22
 
 -- "window (0 batch, 1 state)"
 abbrev pub batchWindow : ℕ

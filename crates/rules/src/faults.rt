@@ -30,6 +30,7 @@ pub fn number(reason: Reason) -> u32
         Reason::FileSize => 19,
         Reason::FileDistance => 20,
         Reason::BufferShort => 21,
+        Reason::NoRoom => 22,
     }
 }
 

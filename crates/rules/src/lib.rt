@@ -2,7 +2,7 @@
 pub mod faults;
 pub mod names;
 
-// Why a capture is refused, in document 01's order: its numbers 1 to 21.
+// Why a capture is refused, in document 01's order: its numbers 1 to 21. 22 is the writer's, of request 4.
 pub enum Reason {
     WrongCounts,
     AddressUnaligned,
@@ -25,6 +25,7 @@ pub enum Reason {
     FileSize,
     FileDistance,
     BufferShort,
+    NoRoom,
 }
 
 // A reason and its place: window 0 is the batch, window 1 the state.

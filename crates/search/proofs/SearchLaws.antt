@@ -7,7 +7,7 @@ use mathlib.Core.Path.{_≡_, refl, sym, ap, _∙_, subst}
 use mathlib.Core.Bool.{Bool, true, false, cond, _&&_}
 use mathlib.Core.List.{List, [], _∷_}
 use lib.ListN.{length, getD}
-use lib.Dec.{eqb, leb}
+use lib.Dec.{eqb}
 use borrow.Author.Tests.{eqb-true, ne-eqb, leb-true}
 use Rattle.rules.specs.declared.Found.the-variants.{At, Nothing}
 use Rattle.rules.specs.declared.Windows.{Windows}
@@ -68,35 +68,11 @@ pub header-spot : (size : ℕ) → inGroup size 0 ≡ 0
 unfolding inGroup
 header-spot size = refl
 
--- no group has more than fifteen dwords
-sizes-tested : each (λ r. leb (groupSize r) 15) rowCount ≡ true
-unfolding each rows theRow groupSize
-sizes-tested = refl
-
-pub size-small : (r : ℕ) → r < rowCount → groupSize r ≤ 15
-size-small r h = leb-true _ _ (at-each (λ k. leb (groupSize k) 15) rowCount sizes-tested r h)
-
--- the table that the code lends has each row's masks, and allows nothing past them
-masks-tested : each (λ r. each (λ j. eqb (getD (getD maskTable r []) j 0) (getD (masksOf r) j 0)) 16) rowCount ≡ true
-unfolding each rows theRow masksOf maskRows maskTable
-masks-tested = refl
-
-pub table-mask : (r j : ℕ) → r < rowCount → j < 16 → getD (getD maskTable r []) j 0 ≡ getD (masksOf r) j 0
-table-mask r j h k =
-    eqb-true _ _
-    (at-each (λ j. eqb (getD (getD maskTable r []) j 0) (getD (masksOf r) j 0)) 16
-    (at-each (λ r. each (λ j. eqb (getD (getD maskTable r []) j 0) (getD (masksOf r) j 0)) 16) rowCount masks-tested r h) j k)
-
 -- what is looked for at a dword, by its place in its group
 pub wrong-at-spot : (what : Sought) (w : Windows) (r : ℕ) (d : List ℕ) (k j : ℕ) → inGroup (groupSize r) k ≡ j
     → wrong what w r d k ≡ wrongAt what w r d k j
 unfolding wrong
 wrong-at-spot what w r d k j e = ap (wrongAt what w r d k) e
-
--- where there is a dword behind the header, a group has dwords
-pub some-size : (size len : ℕ) → (size ≡ 0 → len ≤ 1) → 1 < len → 0 < size
-some-size zero len n h = absurd (omega (arith, n refl))
-some-size (suc size) len n h = omega arith
 
 pub left-at : {bad : ℕ → Bool} {len k j : ℕ} → k ≡ j → Left bad len k → Left bad len j
 left-at {bad} {len} e l = subst (λ (i : ℕ). Left bad len i) e l

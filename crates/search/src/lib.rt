@@ -1,17 +1,15 @@
 // The search over a command's dwords, for 10, 12 and 13 alike: the header, then group after group, dword after dword.
 ghost use mathlib.Core.Path.{_≡_};
-ghost use mathlib.Core.Bool.{not};
 ghost use mathlib.Core.List.{[]};
 ghost use Prim.Native.Nat.{_≤_, _<_};
 ghost use lib.ListN.{length, getD};
-ghost use Rattle.rules.specs.Words.{allowed, firstOf};
+ghost use Rattle.rules.specs.Words.{firstOf};
 ghost use Rattle.rules.specs.Formats.{surfaceFormats};
 ghost use Rattle.rules.specs.Commands.{rowCount, groupSize};
-ghost use Rattle.rules.specs.Masks.{allowedOf};
 ghost use Rattle.rows.specs.Masks.{maskTable};
 ghost use Rattle.search.specs.Search.{wrongAt, wrong};
 use commands::addresses::access_of;
-use commands::addresses::high_used;
+use commands::bits::bit_wrong;
 use commands::values::has_rule;
 use commands::values::value_wrong;
 use rows::group_size;
@@ -19,7 +17,6 @@ use rules::Found;
 use rules::Windows;
 use rules::names::ROWS;
 use windows::access_wrong;
-use words::allowed;
 use words::dwords::address_at;
 
 mod by_row;
@@ -30,18 +27,6 @@ enum Sought {
     Bits,
     Values,
     Ranges,
-}
-
-// Whether the dword k, the dword j of its group, has a bit that it may not have: most keep the row's masks, which are lent, and only of the others it is
-// asked whether they are the high dword of a used address, which 12 looks at.
-fn bit_wrong(row: usize, command: &[u32], k: usize, j: usize, masks: &[u32; 16]) -> bool
-    requires { ⌜ (k < length (now command)) × (j < 16) × (row < rowCount) × (now masks ≡ getD maskTable row []) ⌝ }
-    ensures { λ r. ⌜ r ≡ not (allowed (getD (now (command .entry)) k 0) (allowedOf row (now (command .entry)) k j)) ⌝ }
-{
-    if allowed(command[k], masks[j]) {
-        return false;
-    }
-    !high_used(row, command, k, j)
 }
 
 // Whether the dword k, the dword j of its group, is what is looked for. A value rule is asked only of a dword that has one. The row's masks and the

@@ -10,7 +10,7 @@ use lib.Seq.{take-suc, take-length, length-take-le}
 use borrow.Author.Tests.{ne-eqb}
 use Prim.Native.String.{String}
 use Rattle.rules.specs.Printout.{bytes}
-use Rattle.sentences.specs.Words.{wordsIn, reasonTable, commandTable, accessTable, errorTable}
+use Rattle.sentences.specs.Words.{wordsIn, reasonTable, writingTable, commandTable, accessTable, errorTable}
 use Rattle.sentences.specs.Rows.{inFront, trimmed, Width}
 
 space-goes : (row : List ℕ) → trimmed (row ++ (32 ∷ [])) ≡ trimmed row
@@ -79,6 +79,10 @@ Says table = map trimmed (rowsOf table) ≡ map bytes table
 pub reasons-say : Says reasonTable
 unfolding reasonTable filled rowsOf trimmed
 reasons-say = refl
+
+pub writings-say : Says writingTable
+unfolding writingTable filled rowsOf trimmed
+writings-say = refl
 
 pub commands-say : Says commandTable
 unfolding commandTable filled rowsOf trimmed

@@ -8,7 +8,8 @@ use Rattle.lines.specs.Lines.{Line}
 use Rattle.lines.proofs.Unique.{one-line}
 use Rattle.sentences.specs.declared.Unread.{Unread}
 use Rattle.sentences.specs.declared.Detail.{Detail}
-use Rattle.sentences.specs.Lines.{refusedWords, unreadWords, acceptedLine, refusedLine, unreadLine, unlistedLine, reasonLine, unlistedTotal, totalsLine}
+use Rattle.sentences.specs.Lines.{refusedWords, unreadWords, acceptedLine, refusedLine, unreadLine, unlistedLine, reasonLine, unlistedTotal, totalsLine, writingLine}
+use Rattle.sentences.specs.Words.{commandWords}
 
 module _ {old new new′ : List ℕ} {r r′ : ℕ} where
   pub accepted-line-unique : (name : List ℕ) (count : ℕ) → Line (acceptedLine name count) old r new
@@ -43,3 +44,10 @@ module _ {old new new′ : List ℕ} {r r′ : ℕ} where
 
   pub unread-words-unique : (why : Unread) → Line (unreadWords why) old r new → Line (unreadWords why) old r′ new′ → (r ≡ r′) × (new ≡ new′)
   unread-words-unique why = one-line
+
+  pub command-words-unique : (row : ℕ) → Line (commandWords row) old r new → Line (commandWords row) old r′ new′ → (r ≡ r′) × (new ≡ new′)
+  command-words-unique row = one-line
+
+  pub writing-line-unique : (name : List ℕ) (number reason : ℕ) → Line (writingLine name number reason) old r new
+      → Line (writingLine name number reason) old r′ new′ → (r ≡ r′) × (new ≡ new′)
+  writing-line-unique name number reason = one-line

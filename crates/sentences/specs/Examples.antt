@@ -7,8 +7,8 @@ use Rattle.rules.specs.Printout.{digitsOf, bytes}
 use Rattle.sentences.specs.declared.Unread.the-variants.{NoSuchFile, Folder, Other}
 use Rattle.sentences.specs.declared.Detail.the-variants.{NoMore, InCommand, Reach, HasBytes, HasTooMany}
 use Rattle.lines.specs.Hexadecimal.{hexDigit, hexDigits}
-use Rattle.sentences.specs.Words.{wordsIn, reasonTable, commandTable, accessTable, withinWords, errorTable}
-use Rattle.sentences.specs.Lines.{commandsText, windowText, dwordText, placeText, progressText, acceptedLine, refusedLine, unreadLine, totalsLine}
+use Rattle.sentences.specs.Words.{wordsIn, reasonTable, writingTable, commandTable, accessTable, withinWords, errorTable}
+use Rattle.sentences.specs.Lines.{commandsText, windowText, dwordText, placeText, progressText, acceptedLine, refusedLine, unreadLine, totalsLine, writingLine}
 use Rattle.sentences.specs.Lines.{bytesText, commandText, addressText, reachText, sizeText, detailText, refusedWords, errorText, unreadWords, isMissing}
 
 -- a capture that is accepted
@@ -87,3 +87,8 @@ an-error-by-number = refl
 pub a-totals-line : totalsLine 2 1 0 0 ≡ bytes "2 accepted, 1 refused, 0 unread, 0 missing\n"
 unfolding digitsOf totalsLine
 a-totals-line = refl
+
+-- a line of compose's that is refused
+pub a-writing-line : writingLine (bytes "mine.txt") 3 22 ≡ bytes "lungevati: mine.txt: line 3: refused, 22: there is no room for it in the 4,096 dwords\n"
+unfolding digitsOf wordsIn writingTable writingLine
+a-writing-line = refl

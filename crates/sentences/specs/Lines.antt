@@ -1,4 +1,4 @@
--- The lines of audit: each kind from its first byte to the line feed, and the parts that it is made of.
+-- The lines of audit, and compose's of a refusal: each kind from its first byte to the line feed, and the parts that it is made of.
 use Prim.Native.Nat.{ℕ}
 use mathlib.Core.Bool.{Bool, true, false, cond}
 use mathlib.Core.List.{List, [], _++_}
@@ -11,7 +11,7 @@ use Rattle.sentences.specs.declared.Unread.the-variants.{NoSuchFile, Not
 use Rattle.sentences.specs.declared.Detail.{Detail}
 use Rattle.sentences.specs.declared.Detail.the-variants.{NoMore, InCommand, Reach, HasBytes, HasTooMany}
 use Rattle.lines.specs.Hexadecimal.{hexDigits}
-use Rattle.sentences.specs.Words.{reasonWords, commandWords, accessWords, withinWords, errorWords}
+use Rattle.sentences.specs.Words.{reasonWords, writingWords, commandWords, accessWords, withinWords, errorWords}
 
 -- "1 command", "214 commands"
 unfoldable pub commandsText : ℕ → List ℕ
@@ -126,3 +126,9 @@ unfoldable pub totalsLine : ℕ → ℕ → ℕ → ℕ → List ℕ
 totalsLine accepted refused unread missing =
     (decimal accepted ++ bytes " accepted, ") ++ (decimal refused ++ bytes " refused, ") ++ (decimal unread ++ bytes " unread, ")
     ++ (decimal missing ++ bytes " missing\n")
+
+-- "lungevati: mine.txt: line 3: refused, 7: the table has no such row"
+unfoldable pub writingLine : List ℕ → ℕ → ℕ → List ℕ
+writingLine name number reason =
+    bytes "lungevati: " ++ (name ++ bytes ": line ") ++ (decimal number ++ bytes ": refused, ") ++ (decimal reason ++ bytes ": ")
+    ++ writingWords reason ++ bytes "\n"

@@ -1,4 +1,4 @@
--- The words of audit's lines: for the reasons of document 01, its commands and what they use, and the system's errors.
+-- The words of audit's lines and of compose's: for the reasons of document 01 and the writer's, the commands and what they use, and the system's errors.
 use Prim.Native.Nat.{ℕ}
 use Prim.Native.String.{String}
 use mathlib.Core.List.{List, [], _∷_}
@@ -40,6 +40,21 @@ reasonTable =
 
 abbrev pub reasonWords : ℕ → List ℕ
 reasonWords reason = wordsIn reasonTable reason
+
+-- the numbers of the writer, from 0 on, as they are said of a line that compose reads; most are none of its numbers
+unfoldable pub writingTable : List String
+writingTable =
+    "" ∷ "" ∷ "" ∷ "" ∷ "" ∷ "" ∷ ""
+    ∷ "the table has no such row"
+    ∷ "the row has no command with so many dwords (row 4: by bit 21)"
+    ∷ ""
+    ∷ "a bit of FREE or of a dword is set that is not allowed"
+    ∷ "" ∷ "" ∷ "" ∷ "" ∷ "" ∷ "" ∷ "" ∷ "" ∷ "" ∷ "" ∷ ""
+    ∷ "there is no room for it in the 4,096 dwords"
+    ∷ []
+
+abbrev pub writingWords : ℕ → List ℕ
+writingWords reason = wordsIn writingTable reason
 
 -- the commands of document 01's table, and of request 1, by row
 unfoldable pub commandTable : List String

@@ -1,4 +1,4 @@
-// What audit says of a capture, in plain words: the line of a file, and the line of the totals.
+// What audit says of a capture, in plain words: the line of a file, and the line of the totals. And what compose says of a line that is refused.
 use crate::details::put_refusal;
 use crate::parts::put_both;
 use crate::parts::put_commands;
@@ -6,8 +6,10 @@ use crate::parts::put_count;
 use crate::parts::put_progress;
 use crate::why::put_unread;
 use crate::why::put_verdict;
+use crate::words::command_row;
 use crate::words::put_row;
 use crate::words::reason_row;
+use crate::words::writing_row;
 use lines::LINE_BYTES;
 use lines::MOST_DIGITS;
 use lines::put_byte;
@@ -19,7 +21,8 @@ ghost use Prim.Native.Nat.{_≤_};
 ghost use mathlib.Core.Path.{_≡_};
 ghost use lib.ListN.{length};
 ghost use Rattle.lines.specs.Lines.{Line, nameBytes};
-ghost use Rattle.sentences.specs.Lines.{refusedWords, unreadWords, isMissing, acceptedLine, refusedLine, unreadLine, unlistedLine, reasonLine, unlistedTotal, totalsLine};
+ghost use Rattle.sentences.specs.Lines.{refusedWords, unreadWords, isMissing, acceptedLine, refusedLine, unreadLine, unlistedLine, reasonLine, unlistedTotal, totalsLine, writingLine};
+ghost use Rattle.sentences.specs.Words.{commandWords};
 
 mod details;
 mod parts;
@@ -78,6 +81,13 @@ pub fn unread_words(words: &mut [u8; WORDS_BYTES], why: Unread) -> usize
     ensures { λ r. ⌜ Line (unreadWords why) (now (words .entry)) r (now (words .exit)) ⌝ }
 {
     put_unread(words, 0, why)
+}
+
+// The name of a row's command, from byte 0 on, and its length: a number that is no row has none.
+pub fn command_words(words: &mut [u8; WORDS_BYTES], row: usize) -> usize
+    ensures { λ r. ⌜ Line (commandWords row) (now (words .entry)) r (now (words .exit)) ⌝ }
+{
+    put_row(words, 0, command_row(row))
 }
 
 // Each line stands in the lent buffer from byte 0 on, and its length comes back.
@@ -156,4 +166,17 @@ pub fn totals_line(
     let third = put_count(line, second, refused as usize, b" refused, ");
     let fourth = put_count(line, third, unread as usize, b" unread, ");
     put_count(line, fourth, missing as usize, b" missing\n")
+}
+
+// Of a line of compose's input that the writer refuses, by the number of the line and the writer's.
+pub fn writing_line(line: &mut [u8; LINE_BYTES], name: &[u8], number: usize, reason: u32) -> usize
+    requires { ⌜ length (now name) ≤ nameBytes ⌝ }
+    ensures { λ r. ⌜ Line (writingLine (now (name .entry)) number reason) (now (line .entry)) r (now (line .exit)) ⌝ }
+{
+    let file = put_text(line, 0, b"lungevati: ");
+    let place = put_both(line, file, name, b": line ");
+    let refusal = put_count(line, place, number, b": refused, ");
+    let words = put_count(line, refusal, reason as usize, b": ");
+    let end = put_row(line, words, writing_row(reason));
+    put_byte(line, end, b'\n')
 }

@@ -7,7 +7,7 @@ ghost use mathlib.Core.Path.{_≡_};
 ghost use lib.ListN.{length};
 ghost use Rattle.lines.specs.Lines.{Put};
 ghost use Rattle.sentences.specs.Rows.{trimmed, Width};
-ghost use Rattle.sentences.specs.Words.{reasonWords, commandWords, accessWords, withinWords, errorWords};
+ghost use Rattle.sentences.specs.Words.{reasonWords, writingWords, commandWords, accessWords, withinWords, errorWords};
 
 // What each of document 01's numbers means, from 0 on, which is no reason.
 const REASONS: [[u8; 64]; 22] = [
@@ -33,6 +33,33 @@ const REASONS: [[u8; 64]; 22] = [
     *b"the file is shorter than its trailer or longer than any capture ",
     *b"the length of the file and its trailer do not agree             ",
     *b"a lent buffer is too short                                      ",
+];
+
+// What the numbers of the writer mean, of a line that compose reads, from 0 on; most are none of its numbers.
+const WRITING: [[u8; 64]; 23] = [
+    *b"                                                                ",
+    *b"                                                                ",
+    *b"                                                                ",
+    *b"                                                                ",
+    *b"                                                                ",
+    *b"                                                                ",
+    *b"                                                                ",
+    *b"the table has no such row                                       ",
+    *b"the row has no command with so many dwords (row 4: by bit 21)   ",
+    *b"                                                                ",
+    *b"a bit of FREE or of a dword is set that is not allowed          ",
+    *b"                                                                ",
+    *b"                                                                ",
+    *b"                                                                ",
+    *b"                                                                ",
+    *b"                                                                ",
+    *b"                                                                ",
+    *b"                                                                ",
+    *b"                                                                ",
+    *b"                                                                ",
+    *b"                                                                ",
+    *b"                                                                ",
+    *b"there is no room for it in the 4,096 dwords                     ",
 ];
 
 // The commands of document 01's table, by row.
@@ -130,6 +157,14 @@ pub fn reason_row(reason: u32) -> [u8; 64]
 {
     let i = reason as usize;
     if i < 22 { REASONS[i] } else { [b' '; 64] }
+}
+
+// A number that the writer never answers has no words.
+pub fn writing_row(reason: u32) -> [u8; 64]
+    ensures { λ r. ⌜ trimmed r ≡ writingWords reason ⌝ }
+{
+    let i = reason as usize;
+    if i < 23 { WRITING[i] } else { [b' '; 64] }
 }
 
 // A number that is no row has no name.

@@ -82,7 +82,8 @@ sees-set-registers c =
     let k = c .before .before .before .before in
     let s = k .before .before .before in
     sees-bare _ (now (s .args .batch)) (s .args .at) (s .args .level) 3 (lit< tt) (row-is s (k .match .keys4) (lit< tt) refl) _ (c .found4 .ensures)
-    (λ q. c .before .before .before .length-by-field .ensures) (c .before .set-registers .ensures) (c .before .before .from2 .ensures) (no-address 3 refl) (never-nested 3 (s .args .level) (λ e. omega arith))
+    (λ q. c .before .before .before .length-by-field .ensures) (c .before .set-registers .ensures)
+    (c .before .before .from2 .ensures) (no-address 3 refl) (never-nested 3 (s .args .level) (λ e. omega arith))
 
 sees-store : tie.Need-returns-5
 unfolding rows theRow rowFrom lengthOf usesByRow accessOf valueRules ruleOf

@@ -12,7 +12,8 @@ use borrow.Author.Needs.{needs}
 use Rattle.rows.specs.Masks.{maskTable}
 use Rattle.search.specs.Search.{wrong}
 use Rattle.search.proofs.SearchLaws.{Left, left-at, left-all, left-more, left-found, left-none}
-use Rattle.search.proofs.SearchLaws.{in-group, next-group, header-spot, some-size, wrong-at-spot}
+use Rattle.rows.proofs.RowLaws.{some-size}
+use Rattle.search.proofs.SearchLaws.{in-group, next-group, header-spot, wrong-at-spot}
 use Rattle.search.proofs.first_wrong.Statement.{statement}
 use Rattle.search.proofs.first_wrong.Tie as tie
 

@@ -4,7 +4,7 @@ use native.Mathlib.Omega.{arith}
 use mathlib.Core.Path.{sym, _∙_}
 use Rattle.commands.proofs.RuledLaws.{unruled}
 use Rattle.search.specs.Search.{wrongAt}
-use Rattle.search.proofs.SearchLaws.{size-small}
+use Rattle.rows.proofs.RowLaws.{size-small}
 use borrow.Author.Needs.{needs}
 use Rattle.search.proofs.wrong_at.Statement.{statement}
 use Rattle.search.proofs.wrong_at.Tie as tie

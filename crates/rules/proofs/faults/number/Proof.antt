@@ -12,7 +12,7 @@ number-spec =
     (tie.spec (λ c. search needs) (λ c. search needs) (λ c. search needs) (λ c. search needs) (λ c. search needs) (λ c. search needs)
     (λ c. search needs) (λ c. search needs) (λ c. search needs) (λ c. search needs) (λ c. search needs) (λ c. search needs)
     (λ c. search needs) (λ c. search needs) (λ c. search needs) (λ c. search needs) (λ c. search needs) (λ c. search needs)
-    (λ c. search needs) (λ c. search needs) (λ c. search needs)
+    (λ c. search needs) (λ c. search needs) (λ c. search needs) (λ c. search needs)
     -- the reasons in their order
     (λ c. rw (c .enum-told .given .1)) (λ c. rw (c .enum-told2 .given .1)) (λ c. rw (c .enum-told3 .given .1))
     (λ c. rw (c .enum-told4 .given .1)) (λ c. rw (c .enum-told5 .given .1)) (λ c. rw (c .enum-told6 .given .1))
@@ -20,4 +20,5 @@ number-spec =
     (λ c. rw (c .enum-told10 .given .1)) (λ c. rw (c .enum-told11 .given .1)) (λ c. rw (c .enum-told12 .given .1))
     (λ c. rw (c .enum-told13 .given .1)) (λ c. rw (c .enum-told14 .given .1)) (λ c. rw (c .enum-told15 .given .1))
     (λ c. rw (c .enum-told16 .given .1)) (λ c. rw (c .enum-told17 .given .1)) (λ c. rw (c .enum-told18 .given .1))
-    (λ c. rw (c .enum-told19 .given .1)) (λ c. rw (c .enum-told20 .given .1)) (λ c. rw (c .enum-told21 .given .1)))
+    (λ c. rw (c .enum-told19 .given .1)) (λ c. rw (c .enum-told20 .given .1)) (λ c. rw (c .enum-told21 .given .1))
+    (λ c. rw (c .enum-told22 .given .1)))

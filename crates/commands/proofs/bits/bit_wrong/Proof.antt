@@ -1,4 +1,4 @@
--- `search::bit_wrong` meets its contract: a dword that keeps its mask has no wrong bit, and of one that does not its use decides.
+-- `commands::bits::bit_wrong` meets its contract: a dword that keeps its mask has no wrong bit, and of one that does not its use decides.
 -- Assumes nothing.
 use Prim.Native.Nat.{ℕ, _^_, _<_}
 use mathlib.Core.Path.{_≡_, sym, ap, _∙_}
@@ -11,10 +11,10 @@ use Rattle.rules.specs.Commands.{rowCount}
 use Rattle.rules.specs.Masks.{allowedOf}
 use Rattle.rules.proofs.Used.{used-or-kept}
 use Rattle.rows.specs.Masks.{maskTable}
-use Rattle.search.proofs.SearchLaws.{table-mask}
+use Rattle.rows.proofs.RowLaws.{table-mask}
 use borrow.Author.Needs.{needs}
-use Rattle.search.proofs.bit_wrong.Statement.{statement}
-use Rattle.search.proofs.bit_wrong.Tie as tie
+use Rattle.commands.proofs.bits.bit_wrong.Statement.{statement}
+use Rattle.commands.proofs.bits.bit_wrong.Tie as tie
 
 -- the definition, by the masks that are lent
 by-masks : (r : ℕ) (d masks : List ℕ) (k j : ℕ) → j < 16 → r < rowCount → masks ≡ getD maskTable r [] → getD d k 0 < 2 ^ 32
