@@ -1,7 +1,7 @@
 /*
  * The programs' work in plain C, for bench/shelf to stand beside them: reads files, checks them by compare/checker.c, and prints.
- *   shelf print FILE...     the printout of each
- *   shelf audit FILE...     a line for each, and the totals
+ *   shelf print FILE...     the printout of each, which starts with no base
+ *   shelf audit FILE...     a line for each, and the totals, by the default base
  */
 #include "../compare/checker.h"
 
@@ -25,17 +25,20 @@ static size_t read_file(const char *name)
     return n;
 }
 
-static struct lungevati_answer judged(const char *name)
+typedef struct lungevati_answer check_call(const uint32_t *, size_t, uint64_t, const uint32_t *, size_t, uint64_t,
+                                           uint64_t, uint32_t, uint32_t *, size_t);
+
+static struct lungevati_answer judged(const char *name, check_call *check)
 {
     size_t n = read_file(name);
     struct lungevati_contents c = other_read(bytes, n, batch, LIMIT, state, LIMIT);
     if (c.reason) return (struct lungevati_answer){c.reason, 0, 0, 0};
-    return other_check(batch, c.batch_count, c.batch_at, state, c.state_count, c.state_at, c.scratch_at, c.scratch_len, records, LIMIT);
+    return check(batch, c.batch_count, c.batch_at, state, c.state_count, c.state_at, c.scratch_at, c.scratch_len, records, LIMIT);
 }
 
 static void print(const char *name)
 {
-    struct lungevati_answer a = judged(name);
+    struct lungevati_answer a = judged(name, other_check_no_base);
     printf("reason %u window %u index %u commands %u\n", a.reason, a.window, a.index, a.count);
     for (uint32_t i = 0; i < a.count; i++) {
         uint32_t r = records[i];
@@ -52,7 +55,7 @@ int main(int n, char **v)
             print(v[i]);
             continue;
         }
-        struct lungevati_answer a = judged(v[i]);
+        struct lungevati_answer a = judged(v[i], other_check);
         accepted += a.reason == 0;
         printf(a.reason ? "%s: refused, %u at dword %u after %u commands\n" : "%s: accepted\n", v[i], a.reason, a.index, a.count);
     }

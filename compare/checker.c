@@ -558,10 +558,10 @@ static inline verdict plain_row(uint32_t row, const struct windows *w, uint64_t 
     }
 }
 
-static struct lungevati_answer walk(const struct windows *w, uint32_t *records, size_t room)
+static struct lungevati_answer walk(const struct windows *w, uint64_t base, uint32_t *records, size_t room)
 {
     uint32_t *out = records, *full = records + (room < BUDGET ? room : BUDGET);
-    uint64_t at = 0, kept = 0, base = NEVER_SET, batch_count = (uint64_t)(w->batch_end - w->batch);
+    uint64_t at = 0, kept = 0, batch_count = (uint64_t)(w->batch_end - w->batch);
     uint32_t level = 0; /* in bit 12, as in a record */
 
     for (;;) {
@@ -620,16 +620,34 @@ static int counts_wrong(uint64_t batch, uint64_t state)
     return batch == 0 || batch > WINDOW_LIMIT || state > WINDOW_LIMIT;
 }
 
-struct lungevati_answer other_check(const uint32_t *batch, size_t batch_len, uint64_t batch_at,
-                                    const uint32_t *state, size_t state_len, uint64_t state_at,
-                                    uint64_t scratch_at, uint32_t scratch_len,
-                                    uint32_t *records, size_t records_len)
+/* The walk starts with the dynamic base that is given. */
+static inline struct lungevati_answer check(const uint32_t *batch, size_t batch_len, uint64_t batch_at,
+                                            const uint32_t *state, size_t state_len, uint64_t state_at,
+                                            uint64_t scratch_at, uint32_t scratch_len,
+                                            uint32_t *records, size_t records_len, uint64_t base)
 {
     if (counts_wrong(batch_len, state_len)) return answer(fault(COUNTS, 0), 0);
     struct windows w = {batch, batch + batch_len, state, batch_at, 4 * batch_len,
                         state_at, 4 * state_len, scratch_at, scratch_len};
     uint32_t reason = unsound(&w);
-    return reason ? answer(fault(reason, 0), 0) : walk(&w, records, records_len);
+    return reason ? answer(fault(reason, 0), 0) : walk(&w, base, records, records_len);
+}
+
+/* The state window's address, also where that window is empty, and then maybe 2^48. It has its low twelve bits zero, by number 2. */
+struct lungevati_answer other_check(const uint32_t *batch, size_t batch_len, uint64_t batch_at,
+                                    const uint32_t *state, size_t state_len, uint64_t state_at,
+                                    uint64_t scratch_at, uint32_t scratch_len,
+                                    uint32_t *records, size_t records_len)
+{
+    return check(batch, batch_len, batch_at, state, state_len, state_at, scratch_at, scratch_len, records, records_len, state_at);
+}
+
+struct lungevati_answer other_check_no_base(const uint32_t *batch, size_t batch_len, uint64_t batch_at,
+                                            const uint32_t *state, size_t state_len, uint64_t state_at,
+                                            uint64_t scratch_at, uint32_t scratch_len,
+                                            uint32_t *records, size_t records_len)
+{
+    return check(batch, batch_len, batch_at, state, state_len, state_at, scratch_at, scratch_len, records, records_len, NEVER_SET);
 }
 
 /* ---- The capture file ---- */

@@ -548,7 +548,7 @@ APART uint64_t noops(const uint32_t *cmd, uint32_t *out, uint64_t most, uint32_t
  * The level is part of the position, as it is in a record: at level 1 both `at` and `end` are 4,096 more, and `from` so many dwords
  * less than the batch's first. Long, since every row is a place to jump to.
  */
-static struct lungevati_answer walk(const struct windows *w, uint32_t *records, size_t room)
+static struct lungevati_answer walk(const struct windows *w, uint64_t base, uint32_t *records, size_t room)
 {
     static const void *const rows_at[512] = {
         [0 ... 511] = &&other, [HASH(0x00000000)] = &&noop, [HASH(0x05000000)] = &&batch_end, [HASH(0x18800000)] = &&batch_start,
@@ -560,7 +560,7 @@ static struct lungevati_answer walk(const struct windows *w, uint32_t *records, 
         [HASH(0x7B000000)] = &&primitive, [HASH(0x78240000)] = &&blend,
     };
     uint32_t *out = records, *full = records + (room < BUDGET ? room : BUDGET);
-    uint64_t from = (uint64_t)w->words[0], at = 0, end = w->batch_count, kept = 0, base = NEVER_SET, n, slot;
+    uint64_t from = (uint64_t)w->words[0], at = 0, end = w->batch_count, kept = 0, n, slot;
     uint32_t field;
     NEXT;
 
@@ -687,10 +687,11 @@ APART void bring_nearer(struct windows *w, struct windows *plain)
     if (plain->scratch.at >= TOP / 2) w->scratch.bytes = 0;
 }
 
-struct lungevati_answer fast_check(const uint32_t *batch, size_t batch_len, uint64_t batch_at,
-                                   const uint32_t *state, size_t state_len, uint64_t state_at,
-                                   uint64_t scratch_at, uint32_t scratch_len,
-                                   uint32_t *records, size_t records_len)
+/* The base is the one that the walk starts with, plain as the windows are lent. */
+QUICK struct lungevati_answer check(const uint32_t *batch, size_t batch_len, uint64_t batch_at,
+                                    const uint32_t *state, size_t state_len, uint64_t state_at,
+                                    uint64_t scratch_at, uint32_t scratch_len,
+                                    uint32_t *records, size_t records_len, uint64_t base)
 {
     if (RARELY(batch_len - 1 >= LIMIT)) return answer(fault(COUNTS, 0), 0);
     if (RARELY(state_len > LIMIT)) return answer(fault(COUNTS, 0), 0);
@@ -702,5 +703,21 @@ struct lungevati_answer fast_check(const uint32_t *batch, size_t batch_len, uint
         if (reason) return answer(fault(reason, 0), 0);
         bring_nearer(&w, &plain);
     }
-    return walk(&w, records, records_len);
+    return walk(&w, base, records, records_len);
+}
+
+struct lungevati_answer fast_check(const uint32_t *batch, size_t batch_len, uint64_t batch_at,
+                                   const uint32_t *state, size_t state_len, uint64_t state_at,
+                                   uint64_t scratch_at, uint32_t scratch_len,
+                                   uint32_t *records, size_t records_len)
+{
+    return check(batch, batch_len, batch_at, state, state_len, state_at, scratch_at, scratch_len, records, records_len, state_at);
+}
+
+struct lungevati_answer fast_check_no_base(const uint32_t *batch, size_t batch_len, uint64_t batch_at,
+                                           const uint32_t *state, size_t state_len, uint64_t state_at,
+                                           uint64_t scratch_at, uint32_t scratch_len,
+                                           uint32_t *records, size_t records_len)
+{
+    return check(batch, batch_len, batch_at, state, state_len, state_at, scratch_at, scratch_len, records, records_len, NEVER_SET);
 }

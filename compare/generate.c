@@ -29,7 +29,7 @@ static const struct {
     int aim;
     uint32_t often;
 } aims[] = {{ACCEPTED, 18}, {1, 4}, {2, 4}, {3, 5}, {4, 5}, {6, 5}, {7, 4}, {8, 6}, {9, 6}, {10, 9}, {11, 5}, {12, 16}, {13, 9},
-            {14, 3}, {15, 5}, {16, 4}, {17, 5}, {18, 4}, {ENDLESS_RUN, 1}, {EXACT_RUN, 1}, {FLIPPED, 8}, {NOISE, 1}};
+            {14, 5}, {15, 5}, {16, 4}, {17, 5}, {18, 4}, {ENDLESS_RUN, 1}, {EXACT_RUN, 1}, {FLIPPED, 6}, {NOISE, 1}};
 
 static int aim_of(uint64_t number)
 {
@@ -43,12 +43,14 @@ static void begin(struct capture *c, uint64_t seed, uint64_t number)
     m.c = c;
     dice_start(&m.dice, seed, number);
     m.aim = aim_of(number);
-    m.fixed_base = m.aim != 14 && (m.aim > 14 || !one_in(3));
+    m.cut = m.aim == 14 || one_in(4);
+    m.fixed_base = m.aim >= 14 || !one_in(3);
     m.whole = one_in(2);
-    m.has_base = 0;
     m.at = m.limit = m.data = m.hidden = m.patched = m.made = 0;
     for (int i = 0; i < BLOCKS; i++) m.starts[i] = 0;
     begin_windows();
+    m.base = c->state_at, m.has_base = m.cut;
+    if (m.cut && m.base == TOP && m.aim != 14) m.fixed_base = 0; /* no command could set that one again */
 }
 
 static void make_aimed(void)
@@ -65,6 +67,8 @@ static void make_aimed(void)
         cut_short(m.aim);
     } else if (m.aim == FLIPPED) {
         for (uint32_t n = 1 + below(3); n > 0; n--) flip();
+    } else if (m.aim == 14) { /* by the default it is accepted, or one of its structures is nowhere */
+        if (one_in(2)) plant(15);
     } else if (m.aim >= 7 && m.aim <= 17) {
         plant(m.aim);
     }

@@ -1,5 +1,5 @@
 /*
- * Both engines of the proved checker, the proved writer and the fast checker in C, against the second opinion.
+ * Both engines of the proved checker, the proved writer and the fast checker in C, against the second opinion; each check with both starting bases.
  *   harness N SEED          document 01's cases and the sweeps, then N captures and files made from SEED, and commands to be written
  *   harness N SEED CASE     only that one of the N, and shows it
  * Exit status 1 at the first difference, or where a number was met too rarely for the comparison to say much of it.
@@ -21,7 +21,7 @@ static struct room records, batch_room, state_room, write_room;
 
 static uint64_t asked; /* calls so far */
 
-struct lungevati_answer last_answer, last_write;
+struct lungevati_answer last_answers[CHOICES], last_write;
 const uint32_t *const last_records = records.other + GUARD, *const last_buffer = write_room.other + GUARD;
 
 static const char *const words_for[NUMBERS] = {
@@ -61,10 +61,10 @@ static void lend_steps(struct room *r, size_t len, uint64_t from)
         r->proved[i] = r->other[i] = r->before[i] = (uint32_t)from + (uint32_t)i * 0x9E3779B1;
 }
 
-/* The proved side's words are again as they were before, for another engine. */
-static void lend_again(struct room *r, size_t len)
+/* One side's words are again as they were before, for another engine or another choice. */
+static void lend_again(uint32_t *words, const struct room *r, size_t len)
 {
-    for (size_t i = 0; i < GUARD + len + GUARD; i++) r->proved[i] = r->before[i];
+    for (size_t i = 0; i < GUARD + len + GUARD; i++) words[i] = r->before[i];
 }
 
 static uint32_t differing(const uint32_t *a, const uint32_t *b, size_t from, size_t to)
@@ -102,13 +102,16 @@ uint32_t position_after(const struct capture *c, const uint32_t *recs, uint32_t 
     return at;
 }
 
-static void count_check(const struct capture *c, struct lungevati_answer a, const uint32_t *recs, struct tally *t)
+/* With no base at the start only 14 is counted by row: what else is answered then, the default answers too. */
+static void count_check(const struct capture *c, enum choice choice, const uint32_t *recs, struct tally *t)
 {
+    struct lungevati_answer a = last_answers[choice];
     uint32_t row = ROWS;
-    t->checked[a.reason]++;
+    t->checked[choice][a.reason]++;
+    if (choice == NO_BASE && a.reason != 14) return;
     if (a.reason >= 8) row = stream_row(c->batch[position_after(c, recs, a.count)]);
     t->by_row[row][a.reason]++;
-    for (uint32_t i = 0; i < a.count; i++) {
+    for (uint32_t i = 0; choice == STATE_WINDOW && i < a.count; i++) {
         uint32_t length = recs[i] >> 16 & 0xFF;
         row = recs[i] >> 24;
         if (t->commands[row]++ == 0) t->shortest[row] = t->longest[row] = length;
@@ -161,14 +164,17 @@ static struct lungevati_answer ask(check_call *check, const struct capture *c, u
                  c->scratch_at, c->scratch_len, recs + GUARD, c->records_len);
 }
 
-/* The proved engines, and the fast checker in C, which is asked the same. */
+/* The proved engines, and the fast checker in C, which is asked the same: a call for each choice. */
 static const struct engine {
     const char *name, *records;
-    check_call *check;
-} engines[] = {{"the plain engine", "the plain engine's records", lungevati_check},
-               {"the table engine", "the table engine's records", lungevati_check_table},
-               {"the fast checker", "the fast checker's records", fast_check}};
+    check_call *checks[CHOICES];
+} engines[] = {{"the plain engine", "the plain engine's records", {lungevati_check_no_base, lungevati_check}},
+               {"the table engine", "the table engine's records", {lungevati_check_table_no_base, lungevati_check_table}},
+               {"the fast checker", "the fast checker's records", {fast_check_no_base, fast_check}}};
 enum { ENGINES = sizeof engines / sizeof engines[0] };
+
+static check_call *const other_checks[CHOICES] = {other_check_no_base, other_check};
+static const char *const choice_names[CHOICES] = {"check with no base", "check"};
 
 static int same_answer(const char *call, const char *who, struct lungevati_answer p, struct lungevati_answer o)
 {
@@ -176,6 +182,29 @@ static int same_answer(const char *call, const char *who, struct lungevati_answe
     printf("DIFFERENT: %s: %s reason %u window %u index %u count %u, other reason %u window %u index %u count %u\n", call, who,
            p.reason, p.window, p.index, p.count, o.reason, o.window, o.index, o.count);
     return 0;
+}
+
+/* One choice, on the windows that are lent: all engines answer as the other does, and leave the same records. */
+static int same_choice(const struct capture *c, enum choice choice)
+{
+    lend_again(records.other, &records, c->records_len);
+    struct lungevati_answer o = last_answers[choice] = ask(other_checks[choice], c, records.other);
+    for (uint32_t e = 0; e < ENGINES; e++) {
+        lend_again(records.proved, &records, c->records_len);
+        struct lungevati_answer p = ask(engines[e].checks[choice], c, records.proved);
+        if (!same_answer(choice_names[choice], engines[e].name, p, o)) return 0;
+        if (!same_room(&records, engines[e].records, c->records_len, 0, o.count)) return 0;
+    }
+    if (unchanged(lent_batch, c->batch, c->batch_len) && unchanged(lent_state, c->state, c->state_len)) return 1;
+    return printf("DIFFERENT: a lent window was written\n"), 0;
+}
+
+/* By the default there is always a base, so that it never answers 14; and the choice changes nothing but what is 14 with no base. */
+static int choices_fit(struct lungevati_answer none, struct lungevati_answer by_default)
+{
+    if (by_default.reason == 14) return printf("DIFFERENT: by the default the answer is 14\n"), 0;
+    if (none.reason == 14) return by_default.count >= none.count || (printf("DIFFERENT: the default stops before the 14\n"), 0);
+    return same_answer("check by the default, and with no base", "by the default", by_default, none);
 }
 
 int same_check(const struct capture *c, uint64_t seed, struct tally *t)
@@ -186,20 +215,14 @@ int same_check(const struct capture *c, uint64_t seed, struct tally *t)
     lend_words(lent_batch, c->batch, c->batch_len, &d);
     lend_words(lent_state, c->state, c->state_len, &d);
     lend_room(&records, c->records_len, &d);
-
-    struct lungevati_answer o = ask(other_check, c, records.other);
-    last_answer = o;
-    for (uint32_t e = 0; e < ENGINES; e++) {
-        lend_again(&records, c->records_len);
-        if (!same_answer("check", engines[e].name, ask(engines[e].check, c, records.proved), o)) return 0;
-        if (!same_room(&records, engines[e].records, c->records_len, 0, o.count)) return 0;
+    uint64_t stream_seed = dice_roll(&d);
+    for (enum choice choice = NO_BASE; choice < CHOICES; choice++) {
+        if (!same_choice(c, choice)) return 0;
+        count_check(c, choice, last_records, t);
+        struct lungevati_answer a = last_answers[choice];
+        if (a.reason == 0 && !streams(c, last_records, a.count, stream_seed + choice, t)) return 0;
     }
-    if (!unchanged(lent_batch, c->batch, c->batch_len) || !unchanged(lent_state, c->state, c->state_len)) {
-        printf("DIFFERENT: a lent window was written\n");
-        return 0;
-    }
-    count_check(c, o, last_records, t);
-    return o.reason != 0 || streams(c, last_records, o.count, dice_roll(&d), t);
+    return choices_fit(last_answers[NO_BASE], last_answers[STATE_WINDOW]);
 }
 
 static int same_contents(struct lungevati_contents p, struct lungevati_contents o)
@@ -286,21 +309,24 @@ static void show(const struct capture *c)
            (unsigned long)c->scratch_at, (unsigned long)c->records_len);
     for (size_t i = 0; i < c->batch_len; i++) printf("%s%08x", i % 8 ? " " : i ? "\n" : "batch:\n", c->batch[i]);
     for (size_t i = 0; i < c->state_len; i++) printf("%s%08x", i % 8 ? " " : i ? "\n" : "\nstate:\n", c->state[i]);
-    printf("\nC: reason %u window %u index %u count %u\n", last_answer.reason, last_answer.window, last_answer.index,
-           last_answer.count);
+    printf("\n");
+    for (enum choice choice = NO_BASE; choice < CHOICES; choice++) {
+        struct lungevati_answer a = last_answers[choice];
+        printf("C, %s: reason %u window %u index %u count %u\n", choice_names[choice], a.reason, a.window, a.index, a.count);
+    }
 }
 
 static void print_numbers(const struct tally *t)
 {
-    printf("\n  no.     check      read     write\n");
+    printf("\n  no.     check   no base      read     write\n");
     for (uint32_t i = 0; i < NUMBERS; i++)
-        printf("%5u %9lu %9lu %9lu  %s\n", i, (unsigned long)t->checked[i], (unsigned long)t->read[i], (unsigned long)t->written[i],
-               words_for[i]);
+        printf("%5u %9lu %9lu %9lu %9lu  %s\n", i, (unsigned long)t->checked[STATE_WINDOW][i], (unsigned long)t->checked[NO_BASE][i],
+               (unsigned long)t->read[i], (unsigned long)t->written[i], words_for[i]);
 }
 
 static void print_rows(const struct tally *t)
 {
-    printf("\n  row accepted lengths  written   refused as   7     8     9    10    11    12    13    14    15    16    17    18\n");
+    printf("\n  row accepted lengths  written   refused as   7     8     9    10    11    12    13   14*    15    16    17    18\n");
     for (uint32_t row = 0; row <= ROWS; row++) {
         if (row < ROWS)
             printf("%5u %8lu %3lu..%-3lu %8lu            ", row, (unsigned long)t->commands[row], (unsigned long)t->shortest[row],
@@ -310,6 +336,14 @@ static void print_rows(const struct tally *t)
         for (uint32_t number = 7; number <= 18; number++) printf(" %5lu", (unsigned long)t->by_row[row][number]);
         printf("\n");
     }
+    printf("  * with no base; all else by the default\n");
+}
+
+static int often(const char *call, uint32_t number, uint64_t times, uint64_t least)
+{
+    if (times >= least) return 1;
+    printf("TOO FEW: number %u was met %lu times by %s, and %lu are asked for\n", number, (unsigned long)times, call, (unsigned long)least);
+    return 0;
 }
 
 /* Each number that a call can answer was answered often enough. */
@@ -317,12 +351,10 @@ static int often_enough(const struct tally *t, uint64_t least)
 {
     int enough = 1;
     for (uint32_t i = 0; i < NUMBERS; i++) {
-        int by_check = i <= 18, by_read = i <= 1 || (i >= 19 && i <= 21), by_write = i == 0 || i == 7 || i == 8 || i == 10 || i == 22;
-        if ((by_check && t->checked[i] < least) || (by_read && t->read[i] < least) || (by_write && t->written[i] < least)) {
-            printf("TOO FEW: number %u was met %lu times by check, %lu by read and %lu by write, and %lu are asked for\n", i,
-                   (unsigned long)t->checked[i], (unsigned long)t->read[i], (unsigned long)t->written[i], (unsigned long)least);
-            enough = 0;
-        }
+        if (i <= 18 && i != 14) enough &= often("check", i, t->checked[STATE_WINDOW][i], least);
+        if (i <= 18) enough &= often("check with no base", i, t->checked[NO_BASE][i], least);
+        if (i <= 1 || (i >= 19 && i <= 21)) enough &= often("read", i, t->read[i], least);
+        if (i == 0 || i == 7 || i == 8 || i == 10 || i == 22) enough &= often("write", i, t->written[i], least);
     }
     return enough;
 }
@@ -370,7 +402,7 @@ static int many(uint64_t count, uint64_t seed)
     alarm(SECONDS);
     sweeping = 1;
     if (!sweep(&swept)) return say_case(), 1;
-    printf("document 01's cases have their answers; %lu small captures and files, and %lu commands to be written, tried one by one, agree\n",
+    printf("document 01's cases have their answers; %lu small captures, with both choices of a base, and files, and %lu commands to be written, tried one by one, agree\n",
            (unsigned long)(asked - writes(&swept)), (unsigned long)writes(&swept));
     sweeping = 0;
     for (at_case = 0; at_case < count; at_case++) {
@@ -381,7 +413,8 @@ static int many(uint64_t count, uint64_t seed)
     }
     print_numbers(&t);
     print_rows(&t);
-    printf("\n%lu captures from seed %lu: proved, C and the fast C agree. ", (unsigned long)count, (unsigned long)seed);
+    printf("\n%lu captures from seed %lu, by the default base and with none: proved, C and the fast C agree. ", (unsigned long)count,
+           (unsigned long)seed);
     printf("%lu accepted runs streamed, %lu commands, %lu words stored.\n", (unsigned long)t.streamed, (unsigned long)t.steps,
            (unsigned long)t.stores);
     printf("%lu commands to be written: proved and C agree, and what was written is read so. %lu of them are commands of the captures, written back.\n",

@@ -15,11 +15,14 @@ enum { NUMBERS = 23 }; /* 0 and document 01's refusal numbers, with request 4's 
 
 enum { SECONDS = 60 }; /* a call that takes longer does not return */
 
+/* The dynamic base that a walk starts with. Every capture is asked about with both, the default last. */
+enum choice { NO_BASE, STATE_WINDOW, CHOICES };
+
 /* How often each number was answered, and where. */
 struct tally {
-    uint64_t checked[NUMBERS], read[NUMBERS], written[NUMBERS];
-    uint64_t by_row[19][NUMBERS];                     /* row of the command that was refused; 18 where there is none */
-    uint64_t commands[18], shortest[18], longest[18]; /* accepted commands */
+    uint64_t checked[CHOICES][NUMBERS], read[NUMBERS], written[NUMBERS];
+    uint64_t by_row[19][NUMBERS];                     /* row of the command that was refused, by the default, or by 14; 18 where there is none */
+    uint64_t commands[18], shortest[18], longest[18]; /* accepted commands, by the default */
     uint64_t wrote[18];                               /* commands written */
     uint64_t streamed, steps, stores;
     uint64_t back; /* commands of captures that were written back */
@@ -33,15 +36,18 @@ struct writing {
 };
 
 /*
- * Runs the proved call and the other on one input and compares the answers and every word of every buffer, those around the
- * lent ones too; an accepted capture is run by the streamer as well. 0: a difference, which is printed.
+ * Runs the proved calls and the other on one input and compares the answers and every word of every buffer, those around the
+ * lent ones too; an accepted capture is run by the streamer as well. A check is asked with both choices. 0: a difference, which is printed.
  */
 int same_check(const struct capture *c, uint64_t seed, struct tally *t);
 int same_read(const struct capture_file *f, uint64_t seed, struct tally *t);
 int same_write(const struct writing *w, uint64_t seed, struct tally *t);
 
-/* The answer and the records of the last same_check; the answer of the last same_write, and its buffer. */
-extern struct lungevati_answer last_answer, last_write;
+/*
+ * The answers of the last same_check, and the records by the default, which begin with those by the other choice; the answer of the last
+ * same_write, and its buffer.
+ */
+extern struct lungevati_answer last_answers[CHOICES], last_write;
 extern const uint32_t *const last_records, *const last_buffer;
 
 /* Document 01's cases, and every code, bit and length that can be tried one by one. 0: a difference, which is printed. */

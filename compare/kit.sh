@@ -44,9 +44,9 @@ kit_archives() {
 # writer in C in the place of the proved writer
 kit_as() {
     case $1 in
-        plain) kit_names='-Dother_check=lungevati_check -Dother_read=lungevati_read' ;;
-        table) kit_names='-Dother_check=lungevati_check_table -Dother_read=unused_read' ;;
-        fast) kit_names='-Dother_check=fast_check -Dother_read=unused_fast_read' ;;
+        plain) kit_names='-Dother_check=lungevati_check -Dother_check_no_base=lungevati_check_no_base -Dother_read=lungevati_read' ;;
+        table) kit_names='-Dother_check=lungevati_check_table -Dother_check_no_base=lungevati_check_table_no_base -Dother_read=unused_read' ;;
+        fast) kit_names='-Dother_check=fast_check -Dother_check_no_base=fast_check_no_base -Dother_read=unused_fast_read' ;;
         writer) kit_names='-Dother_write=lungevati_write' ;;
     esac
     shift

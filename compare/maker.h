@@ -31,7 +31,8 @@ struct maker {
     struct capture *c;
     struct dice dice;
     int aim;
-    int fixed_base;     /* one dynamic base for the whole run, set by its first command */
+    int cut;            /* as from behind the driver's STATE_BASE_ADDRESS: the base is the state window's address from the start, which is 14 with none */
+    int fixed_base;     /* one dynamic base for the whole run: that one, or one that is set by the first command */
     int has_base;       /* and whether the block at hand knows its base */
     uint64_t base;
     uint32_t at, limit; /* the next free dword of the batch, and where code must end */

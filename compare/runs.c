@@ -98,6 +98,14 @@ static void about_half(int gaps)
     for (uint32_t i = 0; i < 3; i++) set_address(i, window(i).at - back);
 }
 
+/* An empty window may stand anywhere: at the very end, in the batch, or a little before it. */
+static uint64_t place_of_none(void)
+{
+    uint64_t at = window(0).at, back = PAGE * (uint64_t)below(3);
+    if (one_in(3)) return TOP;
+    return one_in(2) || at < back ? at + PAGE * (uint64_t)below(2) : at - back;
+}
+
 static void place_windows(void)
 {
     int gaps = one_in(2);
@@ -118,9 +126,8 @@ static void place_windows(void)
         for (uint32_t i = 0; i < 3; i++)
             set_address(i, (uint64_t)i * (TOP / 4) + PAGE * (uint64_t)below(0x7FFFFFFF));
     }
-    /* An empty window may stand anywhere. */
     for (uint32_t i = 1; i < 3; i++)
-        if (window(i).bytes == 0 && one_in(2)) set_address(i, one_in(3) ? TOP : window(0).at + PAGE * (uint64_t)below(2));
+        if (window(i).bytes == 0 && !one_in(3)) set_address(i, place_of_none());
 }
 
 /*
@@ -426,10 +433,9 @@ static int good_pointer(uint32_t *cmd, struct command *made)
 {
     uint32_t used = (uint32_t)reads_by_bit_0(made->row);
     if (used && one_in(5)) return cmd[1] &= ~1u, 1; /* not used, so any pointer at all */
-    if (m.aim == 14) return cmd[1] |= used, 1;
-    if (!m.has_base || !(made->structure = find_structure(made->row, &cmd[1]))) return 0;
+    if (m.has_base) made->structure = find_structure(made->row, &cmd[1]);
     cmd[1] |= used;
-    return 1;
+    return made->structure || m.aim == 14; /* 14 needs no structure, so any pointer will do */
 }
 
 static int good_primitive(uint32_t *cmd)
@@ -575,8 +581,8 @@ static void emit_block(struct shape s, uint32_t block, uint32_t tail, uint32_t c
     int second = block >= s.mains;
     uint32_t end = m.limit > tail + 3 ? m.limit - tail - 3 : 0;
     m.starts[block] = m.at;
-    if (!m.fixed_base) m.has_base = 0;
-    if (block == 0 && m.fixed_base) m.fixed_base = emit(BASE_ADDRESS, end, 0);
+    if (!m.fixed_base) m.has_base = m.cut && block == 0; /* which is made and run before all others */
+    if (block == 0 && m.fixed_base && !m.cut) m.fixed_base = emit(BASE_ADDRESS, end, 0);
     emit_commands(s, end, commands, second);
     if (second || block + 1 == s.mains) emit_end(second);
     else emit_start(0, block + 1, 0);
@@ -604,7 +610,11 @@ static void emit_blocks(struct shape s)
 void begin_windows(void)
 {
     m.c->batch_len = m.aim == ENDLESS_RUN || m.aim == EXACT_RUN ? LIMIT : batch_length();
-    m.c->state_len = state_length();
+    m.c->state_len = m.cut && one_in(4) ? 0 : state_length();
+    if (m.cut && m.c->state_len == 0) { /* its structures can only stand in the batch */
+        m.whole = 1;
+        if (m.c->batch_len < 128) m.c->batch_len += 128;
+    }
     m.c->scratch_len = scratch_length();
     place_windows();
     fill_structures(m.c->state, 0, (uint32_t)m.c->state_len);

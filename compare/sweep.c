@@ -8,7 +8,12 @@ static struct capture c;
 static struct tally *tally;
 static uint64_t tried;
 
-static int try_it(void) { return same_check(&c, ++tried, tally); }
+/* On a busy machine all of them may take longer than a single call ever may. */
+static int try_it(void)
+{
+    if (tried % 4096 == 0) alarm(SECONDS);
+    return same_check(&c, ++tried, tally);
+}
 
 /* 2^48, the end of all addresses, and 2^47: from there on a used address has the bits above its 48 set. */
 #define TOP ((uint64_t)1 << 48)
@@ -39,22 +44,29 @@ static void set_batch(const uint32_t *words, size_t len)
 
 struct expected {
     uint32_t len, words[8], room, reason, index, count, records[3];
+    uint32_t by_default; /* the reason by the default base, if that is another than with none */
 };
 
+/* Document 01 starts with no base. Only C11 asks for one: by the default it has one, and its structure is in neither window, since the state window is empty. */
 static const struct expected cases[] = {
-    {0, {0}, 16, 1, 0, 0, {0}},
-    {1, {0x05000000}, 16, 0, 0, 1, {0x01010000}},
-    {1, {0x00000000}, 16, 6, 1, 1, {0x00010000}},
-    {1, {0x05000001}, 16, 10, 0, 0, {0}},
-    {1, {0x40000000}, 16, 7, 0, 0, {0}},
-    {3, {0x18800101, 0x00100000, 0}, 4, 18, 0, 4, {0x02030000, 0x02030000, 0x02030000}},
-    {5, {0x18C00101, 0x00100010, 0, 0x05000000, 0x05000000}, 16, 0, 0, 3, {0x02030000, 0x01011004, 0x01010003}},
-    {5, {0x10000002, 0x00300FFC, 0, 0, 0x05000000}, 16, 0, 0, 2, {0x04040000, 0x01010004}},
-    {6, {0, 0x10000002, 0x00301000, 0, 0, 0x05000000}, 16, 13, 2, 1, {0x00010000}},
-    {5, {0x10200003, 0x00300FFC, 0, 0, 0}, 16, 12, 1, 0, {0}},
-    {2, {0x78230000, 0}, 16, 14, 1, 0, {0}},
-    {7, {0x7B000405, 0x200, 0, 0, 0, 0, 0}, 16, 12, 1, 0, {0}},
+    {0, {0}, 16, 1, 0, 0, {0}, 0},
+    {1, {0x05000000}, 16, 0, 0, 1, {0x01010000}, 0},
+    {1, {0x00000000}, 16, 6, 1, 1, {0x00010000}, 0},
+    {1, {0x05000001}, 16, 10, 0, 0, {0}, 0},
+    {1, {0x40000000}, 16, 7, 0, 0, {0}, 0},
+    {3, {0x18800101, 0x00100000, 0}, 4, 18, 0, 4, {0x02030000, 0x02030000, 0x02030000}, 0},
+    {5, {0x18C00101, 0x00100010, 0, 0x05000000, 0x05000000}, 16, 0, 0, 3, {0x02030000, 0x01011004, 0x01010003}, 0},
+    {5, {0x10000002, 0x00300FFC, 0, 0, 0x05000000}, 16, 0, 0, 2, {0x04040000, 0x01010004}, 0},
+    {6, {0, 0x10000002, 0x00301000, 0, 0, 0x05000000}, 16, 13, 2, 1, {0x00010000}, 0},
+    {5, {0x10200003, 0x00300FFC, 0, 0, 0}, 16, 12, 1, 0, {0}, 0},
+    {2, {0x78230000, 0}, 16, 14, 1, 0, {0}, 15},
+    {7, {0x7B000405, 0x200, 0, 0, 0, 0, 0}, 16, 12, 1, 0, {0}, 0},
 };
+
+static int is(struct lungevati_answer a, uint32_t reason, const struct expected *e)
+{
+    return a.reason == reason && a.window == 0 && a.index == e->index && a.count == e->count;
+}
 
 static int sweep_cases(void)
 {
@@ -63,8 +75,8 @@ static int sweep_cases(void)
         usual_windows();
         set_batch(e->words, e->len);
         c.records_len = e->room;
-        int right = try_it() && last_answer.reason == e->reason && last_answer.window == 0 &&
-                    last_answer.index == e->index && last_answer.count == e->count;
+        int right = try_it() && is(last_answers[NO_BASE], e->reason, e) &&
+                    is(last_answers[STATE_WINDOW], e->by_default ? e->by_default : e->reason, e);
         for (uint32_t k = 0; k < e->count && k < 3; k++) right = right && last_records[k] == e->records[k];
         if (!right) return printf("case C%u of document 01 has another answer\n", i + 1), 0;
     }
@@ -499,6 +511,93 @@ static int sweep_pointers(uint32_t sample)
     return 1;
 }
 
+/* ---- The base at the start: structures that are read before any command has set one ---- */
+
+/*
+ * The state window at the usual place and below the batch, at 0, above 4 GiB, up to 2^47 and from it on, and up to 2^48; and an empty one: elsewhere, at 0,
+ * at scratch, where the batch lies, a page before it and inside it, and at 2^48 itself.
+ */
+static const struct home starts[] = {
+    {0x100000, 0x200000, 0x300000, 64, 32, 4096},      {0x200000, 0x100000, 0x300000, 64, 17, 4096},
+    {0x100000, 0, 0x300000, 64, 32, 4096},             {0x100000, 0x700000000, 0x300000, 64, 32, 4096},
+    {0x100000, HALF - 0x1000, 0x300000, 64, 1024, 4096}, {0x100000, HALF, 0x300000, 64, 32, 4096},
+    {HALF + 0x200000, HALF + 0x100000, HALF, 64, 32, 4096}, {0, TOP - 0x1000, 0x300000, 64, 1024, 4096},
+    {0x100000, 0x200000, 0x300000, 64, 0, 4096},       {0x100000, 0, 0x300000, 64, 0, 4096},
+    {0, 0, 0x300000, 64, 0, 4096},                     {0x100000, 0x300000, 0x300000, 64, 0, 4096},
+    {0x100000, 0x100000, 0x300000, 64, 0, 4096},       {0x101000, 0x100000, 0x300000, 64, 0, 4096},
+    {0x100000, 0x101000, 0x300000, 2000, 0, 4096},     {HALF, HALF, 0x300000, 64, 0, 4096},
+    {TOP - 0x1000, TOP - 0x1000, 0x300000, 1024, 0, 4096}, {0x100000, TOP, 0x300000, 64, 0, 4096},
+    {0, TOP, 0x300000, 64, 0, 4096},                   {TOP - 0x1000, TOP, 0x300000, 1024, 0, 4096},
+};
+enum { STARTS = sizeof starts / sizeof starts[0], START_KINDS = 4, START_TARGETS = 7, START_STEPS = 6 };
+
+static uint32_t *add(uint32_t *to, const uint32_t *words, uint32_t count)
+{
+    for (uint32_t i = 0; i < count; i++) *to++ = words[i];
+    return to;
+}
+
+/*
+ * The command that reads a structure, in those windows, which have zeros else: as the first command (kind 0); behind a STATE_BASE_ADDRESS that leaves the
+ * dynamic base (1); before and behind one that sets it to the batch (2); and so too, the first time in a second-level batch, which sets it (3).
+ */
+static void set_start(const struct home *h, uint32_t kind, const uint32_t *cmd)
+{
+    const uint32_t end = 0x05000000;
+    uint32_t call[3] = {0x18C00101, 0, 0}, base[BASE_DWORDS] = {0x6101000E}, *to = c.batch;
+    put_address(call + 1, h->batch + 4 * 6);
+    put_address(base + 6, h->batch | 1);
+    if (kind == 1) base[6] &= ~1u, base[7] &= 0xFFFF;
+    for (uint32_t i = 0; i < h->batch_len; i++) c.batch[i] = 0;
+    for (uint32_t i = 0; i < h->state_len; i++) c.state[i] = 0;
+    c.batch_at = h->batch, c.state_at = h->state, c.scratch_at = h->scratch;
+    c.batch_len = h->batch_len, c.state_len = h->state_len, c.scratch_len = h->scratch_len;
+    c.records_len = 8;
+
+    if (kind == 1) to = add(to, base, BASE_DWORDS);
+    if (kind == 3) to = add(to, call, 3);
+    to = add(to, cmd, 2);
+    if (kind == 3) to = add(add(to, &end, 1), cmd, 2); /* what is called stands at dword 6 */
+    if (kind >= 2) to = add(to, base, BASE_DWORDS);
+    if (kind == 2) to = add(to, cmd, 2);
+    add(to, &end, 1);
+}
+
+/* Pointers about both windows' ends, a place in the batch, 2^47 and 2^48, as the state window's address reaches them, or a sum of 32 bits would. */
+static int sweep_start(uint32_t sample, uint32_t step)
+{
+    for (uint32_t i = 0; i < STARTS * START_KINDS * START_TARGETS * START_STEPS; i++) {
+        const struct home *h = &starts[i % STARTS];
+        uint32_t kind = i / STARTS % START_KINDS, target = i / (STARTS * START_KINDS) % START_TARGETS;
+        const uint64_t targets[START_TARGETS] = {h->state, h->state + 4 * h->state_len, h->batch, h->batch + 4 * 32,
+                                                 h->batch + 4 * h->batch_len, HALF, TOP};
+        uint64_t at = targets[target] + step * (uint64_t)(i / (STARTS * START_KINDS * START_TARGETS)) - 3 * step;
+        const uint32_t cmd[2] = {samples[sample][1], ((uint32_t)(at - h->state) & ~(step - 1)) | (samples[sample][2] & 1)};
+        set_start(h, kind, cmd);
+        if (!try_it()) return 0;
+    }
+    return 1;
+}
+
+/* And state windows of every length up to a structure's end, of which one dword may have a fault. */
+static int sweep_start_lengths(uint32_t sample)
+{
+    for (uint32_t i = 0; i < 19 * 19; i++) {
+        struct home h = starts[0];
+        h.state_len = i % 19;
+        set_start(&h, 0, samples[sample] + 1);
+        if (i / 19 < h.state_len) c.state[i / 19] = 0xFFFFFFFF;
+        if (!try_it()) return 0;
+    }
+    return 1;
+}
+
+static int sweep_starts(void)
+{
+    return sweep_start(16, 32) && sweep_start(17, 64) && sweep_start(BLEND_SAMPLE, 64) && sweep_start_lengths(16) &&
+           sweep_start_lengths(17) && sweep_start_lengths(BLEND_SAMPLE);
+}
+
 /* ---- Windows ---- */
 
 static int sweep_windows(void)
@@ -625,7 +724,7 @@ int sweep(struct tally *t)
     tally = t;
     if (!sweep_writes(t)) return 0;
     alarm(SECONDS);
-    return sweep_cases() && sweep_samples() && sweep_lengths() && sweep_codes() && sweep_primitive() && sweep_addresses() && sweep_highs() &&
+    return sweep_cases() && sweep_starts() && sweep_samples() && sweep_lengths() && sweep_codes() && sweep_primitive() && sweep_addresses() && sweep_highs() &&
            sweep_structures() && sweep_blends() && sweep_pointers(16) && sweep_pointers(17) && sweep_pointers(BLEND_SAMPLE) &&
            sweep_windows() && sweep_many() && sweep_files();
 }

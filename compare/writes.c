@@ -106,26 +106,30 @@ static int written_back(const struct capture *c, uint32_t at, uint32_t length)
 }
 
 /* The command that the capture was refused for: from 11 on it is written back too; and by 8 or 10 the writer refuses it as well. */
-static int refused_back(const struct capture *c, uint32_t reason, uint64_t seed, struct dice *d, struct tally *t)
+static int refused_back(const struct capture *c, struct lungevati_answer a, uint64_t seed, struct dice *d, struct tally *t)
 {
-    if (reason < 8 || reason == 9) return 1;
-    uint32_t at = position_after(c, last_records, last_answer.count), row = stream_row(c->batch[at]);
+    if (a.reason < 8 || a.reason == 9) return 1;
+    uint32_t at = position_after(c, last_records, a.count), row = stream_row(c->batch[at]);
     uint32_t length = fieldless(row) ? 1 : (c->batch[at] & 0xFF) + 2;
     take_apart(c, at, row, length, d);
     if (!write_it(seed, t)) return 0;
-    if (reason > 10) return written_back(c, at, length) && ++t->back;
-    return last_write.reason == reason || read_wrong("the capture was refused by", reason);
+    if (a.reason > 10) return written_back(c, at, length) && ++t->back;
+    return last_write.reason == a.reason || read_wrong("the capture was refused by", a.reason);
 }
 
-/* Each command of an accepted run, once, however often it ran: the batch does not change meanwhile. Of a refused one the command that did it. */
+/*
+ * Each command of a run that the default accepts, once, however often it ran: the batch does not change meanwhile. Of a refused one the command
+ * that did it.
+ */
 int write_back(const struct capture *c, uint64_t seed, struct tally *t)
 {
     static uint64_t seen[LIMIT], turn;
+    struct lungevati_answer a = last_answers[STATE_WINDOW];
     struct dice d;
     dice_start(&d, seed, 4);
-    if (last_answer.reason) return refused_back(c, last_answer.reason, seed, &d, t);
+    if (a.reason) return refused_back(c, a, seed, &d, t);
     turn++;
-    for (uint32_t i = 0; i < last_answer.count; i++) {
+    for (uint32_t i = 0; i < a.count; i++) {
         uint32_t at = last_records[i] & 0xFFF, length = last_records[i] >> 16 & 0xFF;
         if (seen[at] == turn) continue;
         seen[at] = turn;

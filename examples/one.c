@@ -1,4 +1,7 @@
-/* Checks the capture on standard input through the C calls, and prints document 01's answer line. Exit status: 0 accepted, 1 refused, 2 not read. */
+/*
+ * Checks the capture on standard input through the C calls, and prints document 01's answer line, as the printout has it: with no dynamic base at
+ * the start. Exit status: 0 accepted, 1 refused, 2 not read.
+ */
 #include "lungevati.h"
 
 /* Where there is a C library with its headers, <stdio.h> and <unistd.h> say the same. */
@@ -28,7 +31,7 @@ int main(void)
     }
     struct lungevati_contents c = lungevati_read(file, size, batch, WORDS, state, WORDS);
     if (c.reason) return say(c.reason, c.window, c.index, c.count);
-    struct lungevati_answer a = lungevati_check(batch, c.batch_count, c.batch_at, state, c.state_count, c.state_at,
-                                                c.scratch_at, c.scratch_len, records, WORDS);
+    struct lungevati_answer a = lungevati_check_no_base(batch, c.batch_count, c.batch_at, state, c.state_count, c.state_at,
+                                                        c.scratch_at, c.scratch_len, records, WORDS);
     return say(a.reason, a.window, a.index, a.count);
 }

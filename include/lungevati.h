@@ -1,7 +1,7 @@
 /*
  * Lungevati from C: the proved checker of captured GPU command buffers, and the proved writer of commands. Archive libapi.a, made by
- * `rt staticlib api`, has lungevati_check, lungevati_read and lungevati_write; libapi_table.a, made by `rt staticlib api_table`, has
- * lungevati_check_table. Both link into one program.
+ * `rt staticlib api`, has lungevati_check, lungevati_check_no_base, lungevati_read and lungevati_write; libapi_table.a, made by
+ * `rt staticlib api_table`, has lungevati_check_table and lungevati_check_table_no_base. Both link into one program.
  *
  * The numbers, places and rules are those of document 01. A reason is 0 (accepted, read, or written) or one of its refusal numbers.
  * Each call returns whatever comes in, allocates nothing and keeps nothing between calls.
@@ -38,14 +38,15 @@ extern "C" {
 
 /* What the walk over a capture found. The writer of commands answers in the same form, and says itself what the four numbers are there. */
 struct lungevati_answer {
-    uint32_t reason; /* 0 accepted, else 1 to 18 */
+    uint32_t reason; /* 0 accepted, else 1 to 18; 14 only of a check with no base at the start */
     uint32_t window; /* where: 0 the batch window, 1 the state window */
     uint32_t index;  /* the dword in that window; 0 in window 0 on acceptance and for 1 to 4 */
     uint32_t count;  /* commands accepted, the end included: so many records are written */
 };
 
 /*
- * Walks the capture and says whether it is allowed, and if not, which rule it breaks first and where.
+ * Walks the capture and says whether it is allowed, and if not, which rule it breaks first and where. The walk starts with state_at as the dynamic
+ * base, also where the state window is empty, as if the driver's first STATE_BASE_ADDRESS had set it: captures are cut behind that command.
  *
  *   batch, state    the two lent windows, only read, with their lengths in dwords and their addresses
  *   scratch         is known by its address and its length in bytes alone
@@ -61,7 +62,17 @@ struct lungevati_answer lungevati_check(const uint32_t *batch, size_t batch_len,
                                         uint32_t *records, size_t records_len);
 
 /*
- * The same question, asked of the table engine: the same answer and the same records for every capture, which is proved, from other code. The plain
+ * The same with no dynamic base at the start: a structure that is read before a STATE_BASE_ADDRESS of the capture has set one is refused, 14 at
+ * the pointer. So it tells a capture that was cut too late, behind that command, from one that has it. lungevati_check never answers 14, which
+ * is proved. Where this call does not either, both give the same answer and the same records: compare/ holds every capture to that, and it is not proved.
+ */
+struct lungevati_answer lungevati_check_no_base(const uint32_t *batch, size_t batch_len, uint64_t batch_at,
+                                                const uint32_t *state, size_t state_len, uint64_t state_at,
+                                                uint64_t scratch_at, uint32_t scratch_len,
+                                                uint32_t *records, size_t records_len);
+
+/*
+ * The question of lungevati_check, asked of the table engine: the same answer and the same records for every capture, which is proved, from other code. The plain
  * engine behind lungevati_check decides by each command's header and has its rules written out; this one looks every dword up in a table. It
  * takes about twice the instructions, and is for whoever wants a second way to the answer.
  */
@@ -69,6 +80,12 @@ struct lungevati_answer lungevati_check_table(const uint32_t *batch, size_t batc
                                               const uint32_t *state, size_t state_len, uint64_t state_at,
                                               uint64_t scratch_at, uint32_t scratch_len,
                                               uint32_t *records, size_t records_len);
+
+/* And the question of lungevati_check_no_base. */
+struct lungevati_answer lungevati_check_table_no_base(const uint32_t *batch, size_t batch_len, uint64_t batch_at,
+                                                      const uint32_t *state, size_t state_len, uint64_t state_at,
+                                                      uint64_t scratch_at, uint32_t scratch_len,
+                                                      uint32_t *records, size_t records_len);
 
 /* What a capture file holds. On a refusal all but the reason is 0. */
 struct lungevati_contents {

@@ -1,6 +1,6 @@
 /*
  * Obeys the lines of tests/reader.lines, whose head says what they mean: reads each file that they ask for, and checks what it read, through the
- * calls that programs in C link. Prints each line and under it what came of it. What that must be, tests/drill derives.
+ * calls that programs in C link. Prints each line and under it what came of it. What that must be, tests/drill derives: with no base at the start.
  */
 #include "lungevati.h"
 
@@ -148,8 +148,8 @@ static void check_capture(struct lungevati_contents c)
 {
     struct lungevati_answer a;
     lend(&records, records_lent);
-    a = lungevati_check(batch.words, c.batch_count, c.batch_at, state.words, c.state_count, c.state_at, c.scratch_at,
-                        c.scratch_len, records.words, records.len);
+    a = lungevati_check_no_base(batch.words, c.batch_count, c.batch_at, state.words, c.state_count, c.state_at, c.scratch_at,
+                                c.scratch_len, records.words, records.len);
     say_answer(a.reason, a.window, a.index, a.count);
     say_words(&records);
 }

@@ -1,10 +1,12 @@
 // The calls for programs in C: thin exports over the proved library. include/lungevati.h declares them.
 ghost use mathlib.Core.Path.{_≡_};
-ghost use Rattle.rules.specs.Records.{startingBase, Checked};
+ghost use Rattle.rules.specs.declared.BaseChoice.the-variants.{StateWindow, NoBase};
+ghost use Rattle.rules.specs.Records.{CheckedFrom};
 ghost use Rattle.rules.specs.Writer.{Written};
 ghost use Rattle.walk.specs.Lent.{lentCapture};
 ghost use Rattle.api.specs.Read.{Small, flatOf, ReadOut};
 use rules::Answer;
+use rules::BaseChoice;
 use rules::Opened;
 use rules::faults::number;
 
@@ -19,9 +21,34 @@ pub extern "C" fn lungevati_check<'a>(
     scratch_len: u32,
     records: &mut [u32],
 ) -> Answer
-    ensures { λ r. ⌜ Checked startingBase (lentCapture (now (batch .entry)) «batch_at» (now (state .entry)) «state_at» «scratch_at» «scratch_len») (now (records .entry)) r (now (records .exit)) ⌝ }
+    ensures { λ r. ⌜ CheckedFrom StateWindow (lentCapture (now (batch .entry)) «batch_at» (now (state .entry)) «state_at» «scratch_at» «scratch_len») (now (records .entry)) r (now (records .exit)) ⌝ }
 {
     plain::check(
+        batch,
+        batch_at,
+        state,
+        state_at,
+        scratch_at,
+        scratch_len,
+        records,
+    )
+}
+
+// The same with no base at the start: `plain::check_from`, with its promise.
+#[no_mangle]
+pub extern "C" fn lungevati_check_no_base<'a>(
+    batch: &'a [u32],
+    batch_at: u64,
+    state: &'a [u32],
+    state_at: u64,
+    scratch_at: u64,
+    scratch_len: u32,
+    records: &mut [u32],
+) -> Answer
+    ensures { λ r. ⌜ CheckedFrom NoBase (lentCapture (now (batch .entry)) «batch_at» (now (state .entry)) «state_at» «scratch_at» «scratch_len») (now (records .entry)) r (now (records .exit)) ⌝ }
+{
+    plain::check_from(
+        BaseChoice::NoBase,
         batch,
         batch_at,
         state,

@@ -1,5 +1,5 @@
 // A line for each capture that is named, in plain words or as JSON, and last the totals. Argument 1 says how, in letters: j for JSON, q without
-// the captures that are accepted, s for names that come on descriptor 5; the other arguments are names.
+// the captures that are accepted, s for names that come on descriptor 5, n to start with no base; the other arguments are names.
 ghost use mathlib.Core.Path.{_≡_};
 ghost use Prim.Native.Nat.{_≤_, _<_};
 ghost use lib.ListN.{length, take};
@@ -18,7 +18,10 @@ use reports::ACCEPTED;
 use reports::MOST_BYTES;
 use reports::REFUSED;
 use reports::UNREAD;
+use reports::base_choice;
+use reports::has_letter;
 use rules::Answer;
+use rules::BaseChoice;
 use rules::Opened;
 use sentences::Detail;
 use sentences::Unread;
@@ -44,11 +47,12 @@ const MISSING: u8 = 3;
 
 const UNLISTED: u8 = 4;
 
-// How the lines are to be, and whether names come on a descriptor.
+// How the lines are to be, whether names come on a descriptor, and the base that captures are judged by.
 struct Wish {
     json: bool,
     quiet: bool,
     stream: bool,
+    choice: BaseChoice,
 }
 
 // The answer for a capture, the dword at its place, what happened there, and the file's size.
@@ -80,22 +84,12 @@ struct Run {
 
 // ---- what is asked for
 
-fn has_letter(word: &[u8], letter: u8) -> bool {
-    let mut i = 0;
-    while i < word.len() {
-        if word[i] == letter {
-            return true;
-        }
-        i += 1;
-    }
-    false
-}
-
 fn wish_of(word: &[u8]) -> Wish {
     Wish {
         json: has_letter(word, b'j'),
         quiet: has_letter(word, b'q'),
         stream: has_letter(word, b's'),
+        choice: base_choice(word),
     }
 }
 
@@ -144,13 +138,14 @@ fn command_detail(
 // 8 to 17 tell of a command, and 19 of the file's size. The buffers hold what the file before has left there, and of that nothing
 // is read: `judge` goes by the words that it fills.
 fn judged(
+    choice: BaseChoice,
     file: &[u8],
     size: Detail,
     batch: &mut [u32; 4096],
     state: &mut [u32; 4096],
     records: &mut [u32; 4096],
 ) -> Finding {
-    let answer = capture::judge(file, batch, state, records);
+    let answer = capture::judge(choice, file, batch, state, records);
     let dword = if answer.window == 0 {
         dword_at(batch, answer.index)
     } else {
@@ -248,6 +243,7 @@ fn part(bytes: &[u8], from: usize, to: usize) -> &[u8]
 
 // What an open file is. A longer file than any capture is not read further.
 fn look_open(
+    choice: BaseChoice,
     fd: i32,
     file: &mut [u8; MOST_BYTES],
     batch: &mut [u32; 4096],
@@ -262,10 +258,11 @@ fn look_open(
     }
     let size = size_of(fd, n);
     let bytes = part(file, 0, n);
-    Look::Read(judged(bytes, size, batch, state, records))
+    Look::Read(judged(choice, bytes, size, batch, state, records))
 }
 
 fn look_at(
+    choice: BaseChoice,
     name: &[u8],
     file: &mut [u8; MOST_BYTES],
     batch: &mut [u32; 4096],
@@ -276,7 +273,7 @@ fn look_at(
     if fd < 0 {
         return Look::NotRead(why());
     }
-    let look = look_open(fd, file, batch, state, records);
+    let look = look_open(choice, fd, file, batch, state, records);
     libc::close(fd);
     look
 }
@@ -527,13 +524,18 @@ fn write_unlisted(line: &mut [u8; LINE_BYTES], n: u64) -> bool {
     write_front(line, end)
 }
 
-fn write_plain_totals(line: &mut [u8; LINE_BYTES], t: Totals) -> bool {
-    let end = sentences::totals_line(line, t.accepted, t.refused, t.unread, t.missing);
+fn write_plain_totals(line: &mut [u8; LINE_BYTES], t: Totals, choice: BaseChoice) -> bool {
+    let end = sentences::totals_line(line, t.accepted, t.refused, t.unread, t.missing, choice);
     write_front(line, end)
 }
 
-fn write_json_totals(line: &mut [u8; LINE_BYTES], t: Totals, reasons: &[u64; REASONS]) -> bool {
-    let end = json::totals_line(line, t, reasons);
+fn write_json_totals(
+    line: &mut [u8; LINE_BYTES],
+    t: Totals,
+    reasons: &[u64; REASONS],
+    choice: BaseChoice,
+) -> bool {
+    let end = json::totals_line(line, t, reasons, choice);
     write_front(line, end)
 }
 
@@ -543,10 +545,13 @@ fn write_totals(
     line: &mut [u8; LINE_BYTES],
     reasons: &[u64; REASONS],
 ) -> bool {
+    let choice = wish.choice;
     if wish.json {
-        return write_json_totals(line, t, reasons);
+        return write_json_totals(line, t, reasons, choice);
     }
-    write_reasons(line, reasons) && write_unlisted(line, t.unlisted) && write_plain_totals(line, t)
+    write_reasons(line, reasons)
+        && write_unlisted(line, t.unlisted)
+        && write_plain_totals(line, t, choice)
 }
 
 // ---- the names
@@ -623,12 +628,13 @@ fn audit_arguments(
     records: &mut [u32; 4096],
     reasons: &mut [u64; REASONS],
 ) -> Run {
+    let choice = wish.choice;
     let mut run = none_yet();
     let mut i = 2;
     while i < count && run.whole {
         let n = argument(i, entry);
         let name = part(entry, 0, n);
-        let look = look_at(name, file, batch, state, records);
+        let look = look_at(choice, name, file, batch, state, records);
         run = with_name(wish, run, name, look, text, line, reasons);
         i += 1;
     }
@@ -637,6 +643,7 @@ fn audit_arguments(
 
 // What a letter before a name asks for: c that it is checked; n that it is no regular file, and u that it is not listed.
 fn look_by_letter(
+    choice: BaseChoice,
     letter: u8,
     name: &[u8],
     file: &mut [u8; MOST_BYTES],
@@ -650,7 +657,7 @@ fn look_by_letter(
     if letter == b'n' {
         return Look::NotRead(Unread::NoRegularFile);
     }
-    look_at(name, file, batch, state, records)
+    look_at(choice, name, file, batch, state, records)
 }
 
 fn in_bounds(size: u64) -> usize
@@ -699,6 +706,7 @@ fn audit_stream(
     records: &mut [u32; 4096],
     reasons: &mut [u64; REASONS],
 ) -> Run {
+    let choice = wish.choice;
     let last = libc::lseek(NAMES, 0, SEEK_END);
     let mut run = begun(last);
     let size = names_size(last);
@@ -710,7 +718,7 @@ fn audit_stream(
         }
         let letter = entry[0];
         let name = part(entry, 1, end);
-        let look = look_by_letter(letter, name, file, batch, state, records);
+        let look = look_by_letter(choice, letter, name, file, batch, state, records);
         run = with_name(wish, run, name, look, text, line, reasons);
         at += end + 1;
     }

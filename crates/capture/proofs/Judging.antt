@@ -1,11 +1,12 @@
 -- The promise of `judge`: of a file that is not read, and of one whose words are checked.
 -- Assumes nothing.
 use Prim.Native.Nat.{ℕ}
-use mathlib.Core.Path.{_≡_, sym, ap, _∙_}
+use mathlib.Core.Path.{_≡_, sym, ap, _∙_, subst}
 use mathlib.Core.List.{List}
 use lib.ListN.{take, length}
 use Rattle.rules.specs.declared.Answer.{Answer}
 use Rattle.rules.specs.declared.Base.{Base}
+use Rattle.rules.specs.declared.BaseChoice.{BaseChoice}
 use Rattle.rules.specs.declared.Contents.{Contents}
 use Rattle.rules.specs.declared.Opened.{Opened}
 use Rattle.rules.specs.declared.Opened.the-variants.{Holds, NotRead}
@@ -13,8 +14,8 @@ use Rattle.rules.specs.declared.Reason.{Reason}
 use Rattle.rules.specs.Refusals.{told}
 use Rattle.rules.specs.Windows.{Capture}
 use Rattle.rules.specs.Walk.{answerOf, commandsOf, endOf}
-use Rattle.rules.specs.Records.{Checked, wordsOf, writtenOf}
-use Rattle.rules.specs.File.{trailerOf, fileCapture, openedVerdict, openedTold, fileRun, FileRead, Judged}
+use Rattle.rules.specs.Records.{CheckedFrom, wordsOf, writtenOf}
+use Rattle.rules.specs.File.{trailerOf, fileCapture, openedVerdict, openedTold, fileRun, FileRead, Judged, JudgedFrom}
 use Rattle.walk.specs.Lent.{lentCapture}
 use Rattle.capture.proofs.Reading.{file-holds, parts}
 
@@ -50,15 +51,16 @@ module _ {file batch state newBatch newState : List ℕ} where
       let h = file-holds file (length batch) (length state) (sym (f .answers)) in
       rw (p .0, p .1, ← h .counts)
 
-  pub read-and-checked : {base : Base} {records newRecords : List ℕ} {contents : Contents} {answer : Answer} {scratch : ℕ}
+  pub read-and-checked : (choice : BaseChoice) {records newRecords : List ℕ} {contents : Contents} {answer : Answer} {scratch : ℕ}
       → FileRead file batch state (Holds contents) newBatch newState → scratch ≡ trailerOf file .scratchBytes
-      → Checked base (heldCapture contents newBatch newState scratch) records answer newRecords
-      → Judged base file batch state records answer newBatch newState newRecords
+      → CheckedFrom choice (heldCapture contents newBatch newState scratch) records answer newRecords
+      → JudgedFrom choice file batch state records answer newBatch newState newRecords
   unfolding fileRun openedVerdict
-  read-and-checked f e k =
+  read-and-checked choice {records} {newRecords} {contents} {answer} f e k =
       let h = file-holds file (length batch) (length state) (sym (f .answers)) in
       let scratches = e ∙ ap (λ (c : Contents). c .scratch .bytes) (h .counts) in
-      let k′ = rw (scratches, same-capture f) at k in
+      let same = ap (heldCapture contents newBatch newState) scratches ∙ same-capture f in
+      let k′ = subst (λ (c : Capture). CheckedFrom choice c records answer newRecords) same k in
       record {
         answers = rw (← f .answers) (k′ .answers);
         batchFilled = f .batchFilled;

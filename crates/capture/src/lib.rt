@@ -1,5 +1,6 @@
 // The capture file: batch dwords, state dwords, then a trailer of 40 bytes.
 use rules::Answer;
+use rules::BaseChoice;
 use rules::Contents;
 use rules::Filled;
 use rules::Opened;
@@ -9,10 +10,9 @@ use rules::faults::number;
 ghost use mathlib.Core.Path.{_≡_};
 ghost use Prim.Native.Nat.{_+_, _-_, _*_, _≤_, _<_};
 ghost use lib.ListN.{length};
-ghost use Rattle.rules.specs.Records.{startingBase};
 ghost use Rattle.rules.specs.File.{word, longWord, trailerBytes, trailerOf, contentsOf};
 ghost use Rattle.rules.specs.File.{offer, distanceWrong, fileCountsWrong, bufferShort, openedOf};
-ghost use Rattle.rules.specs.File.{dwordsFrom, filled, FileRead, openedTold, Judged};
+ghost use Rattle.rules.specs.File.{dwordsFrom, filled, FileRead, openedTold, JudgedFrom};
 ghost use Rattle.rules.specs.declared.Opened.the-variants.{NotRead};
 ghost use Rattle.capture.specs.Offers.{alone};
 
@@ -190,10 +190,16 @@ fn refusal(reason: Reason) -> Answer
     }
 }
 
-// The whole answer for a file: it is read into two lent buffers, and exactly the words that it fills are checked.
-pub fn judge(file: &[u8], batch: &mut [u32], state: &mut [u32], records: &mut [u32]) -> Answer
+// The whole answer for a file, from the base that is chosen: it is read into two lent buffers, and exactly the words that it fills are checked.
+pub fn judge(
+    choice: BaseChoice,
+    file: &[u8],
+    batch: &mut [u32],
+    state: &mut [u32],
+    records: &mut [u32],
+) -> Answer
     ensures { λ r.
-        ⌜ Judged startingBase (now (file .entry)) (now (batch .entry)) (now (state .entry)) (now (records .entry)) r (now (batch .exit)) (now (state .exit)) (now (records .exit)) ⌝ }
+        ⌜ JudgedFrom choice (now (file .entry)) (now (batch .entry)) (now (state .entry)) (now (records .entry)) r (now (batch .exit)) (now (state .exit)) (now (records .exit)) ⌝ }
 {
     match read(file, batch, state) {
         Opened::NotRead(reason) => refusal(reason),
@@ -201,7 +207,8 @@ pub fn judge(file: &[u8], batch: &mut [u32], state: &mut [u32], records: &mut [u
             let first = contents.batch.count;
             let second = contents.state.count;
             let scratch = trailer_word(file, SCRATCH_BYTES);
-            walk::check(
+            walk::check_from(
+                choice,
                 &batch[..first],
                 contents.batch.at,
                 &state[..second],

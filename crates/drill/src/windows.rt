@@ -2,6 +2,7 @@
 ghost use Prim.Native.Nat.{_≤_};
 use crate::sayings;
 use rules::Answer;
+use rules::BaseChoice;
 
 // Room in each window: more dwords than document 01 accepts, and than a line has.
 pub(crate) const ROOM: u32 = 0x2100;
@@ -112,7 +113,8 @@ pub(crate) fn ask(aloud: bool, words: &[u32; WORDS]) -> Answer {
     let lent = at_most(LENT, RECORD_WORDS, words);
     let mut records = [UNWRITTEN; LENT];
     let mut twin = [UNWRITTEN; LENT];
-    let answer = walk::check(
+    let answer = walk::check_from(
+        BaseChoice::NoBase,
         batch,
         at.batch,
         state,
@@ -121,7 +123,8 @@ pub(crate) fn ask(aloud: bool, words: &[u32; WORDS]) -> Answer {
         at.bytes,
         &mut records[..lent],
     );
-    let plainly = plain::check(
+    let plainly = plain::check_from(
+        BaseChoice::NoBase,
         batch,
         at.batch,
         state,

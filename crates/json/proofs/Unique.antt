@@ -3,6 +3,7 @@
 use Prim.Native.Nat.{ℕ}
 use mathlib.Core.Path.{_≡_}
 use mathlib.Core.List.{List}
+use Rattle.rules.specs.declared.BaseChoice.{BaseChoice}
 use Rattle.lines.specs.Lines.{Line}
 use Rattle.lines.proofs.Unique.{one-line}
 use Rattle.json.specs.declared.Told.{Told}
@@ -14,6 +15,6 @@ module _ {old new new′ : List ℕ} {r r′ : ℕ} where
       → Line (fileLine name words told) old r′ new′ → (r ≡ r′) × (new ≡ new′)
   file-line-unique name words told = one-line
 
-  pub totals-line-unique : (t : Totals) (counts : List ℕ) → Line (totalsLine t counts) old r new → Line (totalsLine t counts) old r′ new′
-      → (r ≡ r′) × (new ≡ new′)
-  totals-line-unique t counts = one-line
+  pub totals-line-unique : (t : Totals) (counts : List ℕ) (choice : BaseChoice) → Line (totalsLine t counts choice) old r new
+      → Line (totalsLine t counts choice) old r′ new′ → (r ≡ r′) × (new ≡ new′)
+  totals-line-unique t counts choice = one-line

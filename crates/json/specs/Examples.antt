@@ -4,11 +4,12 @@ use mathlib.Core.List.{[], _∷_, _++_}
 use lib.ListN.{replicate}
 use Rattle.rules.specs.Printout.{digitsOf, bytes}
 use Rattle.lines.specs.Hexadecimal.{hexDigit, hexDigits}
+use Rattle.rules.specs.declared.BaseChoice.the-variants.{StateWindow, NoBase}
 use Rattle.json.specs.declared.Number.the-variants.{Is, Null}
 use Rattle.json.specs.declared.Outcome.the-variants.{Missing, Unlisted}
 use Rattle.json.specs.Strings.{quotedByte, quoted}
 use Rattle.json.specs.Objects.{outcomeText, numberText, dwordText, withAnswer, judged, notJudged, headText, placeText, fileLine}
-use Rattle.json.specs.Objects.{reasonText, reasonsOn, countsText, totalsLine}
+use Rattle.json.specs.Objects.{reasonText, reasonsOn, countsText, baseText, totalsLine}
 
 pub strings : (quoted (bytes "say \"a\\b\"") ≡ bytes "say \\\"a\\\\b\\\"")
     × (quoted (bytes "two\nlines") ≡ bytes "two\\u000Alines")
@@ -31,13 +32,14 @@ pub an-unlisted-file : fileLine (bytes "a\n") (bytes "not listed") (notJudged (I
 unfolding digitsOf hexDigit hexDigits quotedByte quoted outcomeText numberText dwordText notJudged headText placeText fileLine
 an-unlisted-file = refl
 
--- 13 refused two, 19 one
-pub the-totals : totalsLine (record { accepted = 4; refused = 3; unread = 0; missing = 1; unlisted = 2 }) (replicate 13 0 ++ (2 ∷ 0 ∷ 0 ∷ 0 ∷ 0 ∷ 0 ∷ 1 ∷ 0 ∷ 0 ∷ 0 ∷ []))
-    ≡ bytes "{\"accepted\":4,\"refused\":3,\"unread\":0,\"missing\":1,\"unlisted\":2,\"reasons\":{\"13\":2,\"19\":1},\"rules\":\"01+1+2+3+4+6\"}\n"
-unfolding digitsOf reasonText reasonsOn countsText totalsLine
+-- 13 refused two, 19 one; by the default
+pub the-totals : totalsLine (record { accepted = 4; refused = 3; unread = 0; missing = 1; unlisted = 2 }) (replicate 13 0 ++ (2 ∷ 0 ∷ 0 ∷ 0 ∷ 0 ∷ 0 ∷ 1 ∷ 0 ∷ 0 ∷ 0 ∷ [])) StateWindow
+    ≡ bytes "{\"accepted\":4,\"refused\":3,\"unread\":0,\"missing\":1,\"unlisted\":2,\"reasons\":{\"13\":2,\"19\":1},\"rules\":\"01+1+2+3+4+5+6\",\"base\":\"state\"}\n"
+unfolding digitsOf reasonText reasonsOn countsText baseText totalsLine
 the-totals = refl
 
-pub no-refusal : totalsLine (record { accepted = 1; refused = 0; unread = 0; missing = 0; unlisted = 0 }) (replicate 23 0)
-    ≡ bytes "{\"accepted\":1,\"refused\":0,\"unread\":0,\"missing\":0,\"unlisted\":0,\"reasons\":{},\"rules\":\"01+1+2+3+4+6\"}\n"
-unfolding digitsOf reasonText reasonsOn countsText totalsLine
+-- without a base
+pub no-refusal : totalsLine (record { accepted = 1; refused = 0; unread = 0; missing = 0; unlisted = 0 }) (replicate 23 0) NoBase
+    ≡ bytes "{\"accepted\":1,\"refused\":0,\"unread\":0,\"missing\":0,\"unlisted\":0,\"reasons\":{},\"rules\":\"01+1+2+3+4+5+6\",\"base\":\"none\"}\n"
+unfolding digitsOf reasonText reasonsOn countsText baseText totalsLine
 no-refusal = refl

@@ -5,6 +5,8 @@ use mathlib.Core.List.{List, [], _∷_, _++_}
 use lib.ListN.{drop}
 use lib.Dec.{eqb}
 use Rattle.rules.specs.declared.Answer.{Answer}
+use Rattle.rules.specs.declared.BaseChoice.{BaseChoice}
+use Rattle.rules.specs.declared.BaseChoice.the-variants.{StateWindow, NoBase}
 use Rattle.rules.specs.Printout.{decimal, bytes}
 use Rattle.lines.specs.Hexadecimal.{hexDigits}
 use Rattle.json.specs.declared.Number.{Number}
@@ -15,9 +17,9 @@ use Rattle.json.specs.declared.Told.{Told}
 use Rattle.json.specs.declared.Totals.{Totals}
 use Rattle.json.specs.Strings.{quoted}
 
--- the rules that are checked: document 01 with requests 1, 2, 3 and 6, by number. Each landing changes it, here and in `RULES`
+-- the rules that are checked: document 01 with the requests that have landed, by number. Each landing changes it, here and in `RULES`
 abbrev pub rulesText : List ℕ
-rulesText = bytes "01+1+2+3+4+6"
+rulesText = bytes "01+1+2+3+4+5+6"
 
 unfoldable pub outcomeText : Outcome → List ℕ
 outcomeText Accepted = bytes "accepted"
@@ -99,7 +101,13 @@ countsText t =
     ++ (bytes ",\"unread\":" ++ decimal (t .unread)) ++ (bytes ",\"missing\":" ++ decimal (t .missing))
     ++ (bytes ",\"unlisted\":" ++ decimal (t .unlisted))
 
+-- request 5: the base that the captures were judged by
+unfoldable pub baseText : BaseChoice → List ℕ
+baseText StateWindow = bytes "state"
+baseText NoBase = bytes "none"
+
 -- THE LINE of the totals. The counts of the reasons stand by their numbers, from 0 on, which is no reason
-unfoldable pub totalsLine : Totals → List ℕ → List ℕ
-totalsLine t counts =
-    countsText t ++ bytes ",\"reasons\":{" ++ reasonsOn 0 1 (drop 1 counts) ++ bytes "},\"rules\":\"" ++ rulesText ++ bytes "\"}\n"
+unfoldable pub totalsLine : Totals → List ℕ → BaseChoice → List ℕ
+totalsLine t counts choice =
+    countsText t ++ bytes ",\"reasons\":{" ++ reasonsOn 0 1 (drop 1 counts) ++ bytes "},\"rules\":\"" ++ rulesText
+    ++ (bytes "\",\"base\":\"" ++ baseText choice) ++ bytes "\"}\n"

@@ -1,4 +1,5 @@
 // What audit says for other programs: the line of a file, and the line of the totals, each an object of JSON.
+use crate::parts::put_base;
 use crate::parts::put_dword;
 use crate::parts::put_member;
 use crate::parts::put_number;
@@ -8,6 +9,7 @@ use crate::reasons::put_reasons;
 use lines::LINE_BYTES;
 use lines::put_text;
 use rules::Answer;
+use rules::BaseChoice;
 ghost use mathlib.Core.Path.{_≡_};
 ghost use Prim.Native.Nat.{_+_, _≤_};
 ghost use lib.ListN.{length};
@@ -19,7 +21,7 @@ mod parts;
 mod reasons;
 
 // The rules that are checked: document 01, and the requests that have landed, by number. Each landing changes it, here and in the definition.
-pub const RULES: [u8; 12] = *b"01+1+2+3+4+6";
+pub const RULES: [u8; 14] = *b"01+1+2+3+4+5+6";
 
 // A number, or null.
 pub enum Number {
@@ -145,14 +147,21 @@ fn put_counts(line: &mut [u8], t: Totals) -> usize
     put_number(line, unlisted, b",\"unlisted\":", t.unlisted)
 }
 
-// The line of the totals, from byte 0 on, and its length. How many files each reason refused stands at its number.
-pub fn totals_line(line: &mut [u8; LINE_BYTES], totals: Totals, counts: &[u64; 23]) -> usize
-    ensures { λ r. ⌜ Line (totalsLine totals (now (counts .entry))) (now (line .entry)) r (now (line .exit)) ⌝ }
+// The line of the totals, from byte 0 on, and its length. How many files each reason refused stands at its number; last is the base that the files
+// were judged by.
+pub fn totals_line(
+    line: &mut [u8; LINE_BYTES],
+    totals: Totals,
+    counts: &[u64; 23],
+    choice: BaseChoice,
+) -> usize
+    ensures { λ r. ⌜ Line (totalsLine totals (now (counts .entry)) choice) (now (line .entry)) r (now (line .exit)) ⌝ }
 {
     let open = put_counts(line, totals);
     let first = put_text(line, open, b",\"reasons\":{");
     let close = put_reasons(line, first, counts);
     let rules = put_text(line, close, b"},\"rules\":\"");
-    let end = put_text(line, rules, &RULES);
+    let base = put_text(line, rules, &RULES);
+    let end = put_base(line, base, choice);
     put_text(line, end, b"\"}\n")
 }

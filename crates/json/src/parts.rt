@@ -6,6 +6,7 @@ use lines::put_byte;
 use lines::put_digits;
 use lines::put_hex;
 use lines::put_text;
+use rules::BaseChoice;
 ghost use Prim.Native.Nat.{_+_, _≤_};
 ghost use mathlib.Core.List.{[], _∷_, _++_};
 ghost use lib.ListN.{length};
@@ -13,7 +14,7 @@ ghost use Rattle.rules.specs.Printout.{decimal, bytes};
 ghost use Rattle.lines.specs.Lines.{Put};
 ghost use Rattle.lines.specs.Hexadecimal.{hexDigits};
 ghost use Rattle.json.specs.Strings.{quotedByte, quoted};
-ghost use Rattle.json.specs.Objects.{outcomeText, numberText, dwordText};
+ghost use Rattle.json.specs.Objects.{outcomeText, numberText, dwordText, baseText};
 
 fn put_escaped(line: &mut [u8], at: usize, byte: u8) -> usize
     requires { ⌜ at + 2 ≤ length (now line) ⌝ }
@@ -135,4 +136,22 @@ pub fn put_outcome(line: &mut [u8], at: usize, outcome: Outcome) -> usize
 {
     let word = put_text(line, at, b",\"verdict\":\"");
     put_outcome_word(line, word, outcome)
+}
+
+fn put_base_word(line: &mut [u8], at: usize, choice: BaseChoice) -> usize
+    requires { ⌜ at + 5 ≤ length (now line) ⌝ }
+    ensures { λ r. ⌜ Put at 5 (baseText choice) (now (line .entry)) r (now (line .exit)) ⌝ }
+{
+    match choice {
+        BaseChoice::StateWindow => put_text(line, at, b"state"),
+        BaseChoice::NoBase => put_text(line, at, b"none"),
+    }
+}
+
+pub fn put_base(line: &mut [u8], at: usize, choice: BaseChoice) -> usize
+    requires { ⌜ at + 15 ≤ length (now line) ⌝ }
+    ensures { λ r. ⌜ Put at 15 (bytes "\",\"base\":\"" ++ baseText choice) (now (line .entry)) r (now (line .exit)) ⌝ }
+{
+    let word = put_text(line, at, b"\",\"base\":\"");
+    put_base_word(line, word, choice)
 }

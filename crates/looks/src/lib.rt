@@ -6,9 +6,3 @@ pub enum Look {
     Whole(usize, usize),
     Wrong(Fault),
 }
-
-// Which engine looks at the commands of a run. What is promised does not depend on it.
-pub enum Engine {
-    Table,
-    Plain,
-}

@@ -1,4 +1,5 @@
-// Prints document 01's printout of each capture that an argument names, or of the one on standard input.
+// Prints document 01's printout of each capture that an argument names, or of the one on standard input. Argument 1 says how, in letters: n to start
+// with no base; the other arguments are names.
 ghost use mathlib.Core.Path.{_≡_};
 ghost use Prim.Native.Nat.{_≤_};
 ghost use lib.ListN.{length};
@@ -12,8 +13,10 @@ use reports::ACCEPTED;
 use reports::MOST_BYTES;
 use reports::REFUSED;
 use reports::UNREAD;
+use reports::base_choice;
 use reports::worse;
 use rules::Answer;
+use rules::BaseChoice;
 
 // The status of a run whose output could not be written: nothing is read after it.
 const UNWRITTEN: u8 = 3;
@@ -32,6 +35,13 @@ enum Ending {
 struct Input {
     count: usize,
     ending: Ending,
+}
+
+// The base that captures are to be judged by.
+fn asked() -> BaseChoice {
+    let mut word = io::buffer();
+    let n = os::arg(1, &mut word);
+    base_choice(&word[..n])
 }
 
 // Writes to standard output, and says why if that cannot be done.
@@ -80,13 +90,14 @@ fn told(records: &[u32], count: usize) -> &[u32] {
 
 // Prints the answer for a file and its records, and answers its status.
 fn print_judgement(
+    choice: BaseChoice,
     page: &mut [u8; PAGE_BYTES],
     batch: &mut [u32; 4096],
     state: &mut [u32; 4096],
     records: &mut [u32; 4096],
     file: &[u8],
 ) -> u8 {
-    let answer = capture::judge(file, batch, state, records);
+    let answer = capture::judge(choice, file, batch, state, records);
     if !print_answer(answer) {
         return UNWRITTEN;
     }
@@ -185,6 +196,7 @@ fn read_input(fd: i32, bytes: &mut [u8]) -> Input
 
 // The answer for the bytes of an input, which is shown by its name.
 fn answer_bytes(
+    choice: BaseChoice,
     page: &mut [u8; PAGE_BYTES],
     batch: &mut [u32; 4096],
     state: &mut [u32; 4096],
@@ -198,11 +210,12 @@ fn answer_bytes(
     if among_several && !print_name(page, name) {
         return UNWRITTEN;
     }
-    print_judgement(page, batch, state, records, file)
+    print_judgement(choice, page, batch, state, records, file)
 }
 
 // The answer for an open input.
 fn answer_input(
+    choice: BaseChoice,
     page: &mut [u8; PAGE_BYTES],
     batch: &mut [u32; 4096],
     state: &mut [u32; 4096],
@@ -227,6 +240,7 @@ fn answer_input(
             UNREAD
         }
         Ending::Whole => answer_bytes(
+            choice,
             page,
             batch,
             state,
@@ -247,6 +261,7 @@ fn front(bytes: &[u8], n: usize) -> &[u8]
 }
 
 fn answer_file(
+    choice: BaseChoice,
     page: &mut [u8; PAGE_BYTES],
     text: &mut [u8; NAME_BYTES],
     batch: &mut [u32; 4096],
@@ -265,13 +280,24 @@ fn answer_file(
         complain(shown);
         return UNREAD;
     }
-    let status = answer_input(page, batch, state, records, bytes, fd, shown, among_several);
+    let status = answer_input(
+        choice,
+        page,
+        batch,
+        state,
+        records,
+        bytes,
+        fd,
+        shown,
+        among_several,
+    );
     libc::close(fd);
     status
 }
 
 // An argument that is longer than any path fills the buffer, and no path is as long as that.
 fn answer_argument(
+    choice: BaseChoice,
     page: &mut [u8; PAGE_BYTES],
     text: &mut [u8; NAME_BYTES],
     batch: &mut [u32; 4096],
@@ -285,6 +311,7 @@ fn answer_argument(
     let n = os::arg(i, &mut name);
     if os::errno() == libc::ENAMETOOLONG {
         return answer_file(
+            choice,
             page,
             text,
             batch,
@@ -296,6 +323,7 @@ fn answer_argument(
         );
     }
     answer_file(
+        choice,
         page,
         text,
         batch,
@@ -308,6 +336,7 @@ fn answer_argument(
 }
 
 fn answer_arguments(
+    choice: BaseChoice,
     page: &mut [u8; PAGE_BYTES],
     text: &mut [u8; NAME_BYTES],
     batch: &mut [u32; 4096],
@@ -317,9 +346,19 @@ fn answer_arguments(
     count: usize,
 ) -> u8 {
     let mut worst = ACCEPTED;
-    let mut i = 1;
+    let mut i = 2;
     while i < count && worst < UNWRITTEN {
-        let status = answer_argument(page, text, batch, state, records, bytes, i, 2 < count);
+        let status = answer_argument(
+            choice,
+            page,
+            text,
+            batch,
+            state,
+            records,
+            bytes,
+            i,
+            3 < count,
+        );
         worst = worse(worst, status);
         i += 1;
     }
@@ -328,6 +367,7 @@ fn answer_arguments(
 
 // The buffers are made once, whatever the number of files: clearing them for each would take longer than the check.
 fn main() {
+    let choice = asked();
     let mut page = [0u8; PAGE_BYTES];
     let mut text = [0u8; NAME_BYTES];
     let mut batch = [0u32; 4096];
@@ -335,8 +375,9 @@ fn main() {
     let mut records = [0u32; 4096];
     let mut bytes = [0u8; MOST_BYTES];
     let count = os::arg_count();
-    let status = if count < 2 {
+    let status = if count < 3 {
         answer_input(
+            choice,
             &mut page,
             &mut batch,
             &mut state,
@@ -348,6 +389,7 @@ fn main() {
         )
     } else {
         answer_arguments(
+            choice,
             &mut page,
             &mut text,
             &mut batch,

@@ -4,3 +4,4 @@ pub mod Demand3
 pub mod Files
 pub mod BadVersions
 pub mod Writer
+pub mod Choices

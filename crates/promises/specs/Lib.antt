@@ -5,3 +5,4 @@ pub mod Engines
 pub mod Files
 pub mod Versions
 pub mod Writer
+pub mod Choices

@@ -1,6 +1,7 @@
 // Each demand as a theorem that can be read on its own, from the promise of the public calls (specs/); and the theorem about the two engines' calls.
 ghost use Rattle.promises.specs.Engines.{SameAnswers};
 use rules::Answer;
+use rules::BaseChoice;
 
 // What the two engines answered.
 pub struct Answers {
@@ -8,9 +9,10 @@ pub struct Answers {
     pub plainly: Answer,
 }
 
-// THE SAME ANSWERS: whoever asks both engines about a capture, with two record buffers of the same words, gets the same answer from both, and finds
+// THE SAME ANSWERS: whoever asks both engines about a capture, from the same starting base and with two record buffers of the same words, gets the same answer from both, and finds
 // the same words in both buffers. It is a function so that the theorem is about the two calls themselves, and not about what they promise.
 pub fn asked_both<'a>(
+    choice: BaseChoice,
     batch: &'a [u32],
     batch_at: u64,
     state: &'a [u32],
@@ -22,7 +24,8 @@ pub fn asked_both<'a>(
 ) -> Answers
     ensures { λ r. ⌜ SameAnswers (now (records .entry)) (now (twin .entry)) r (now (records .exit)) (now (twin .exit)) ⌝ }
 {
-    let table = walk::check(
+    let table = walk::check_from(
+        choice,
         batch,
         batch_at,
         state,
@@ -31,7 +34,8 @@ pub fn asked_both<'a>(
         scratch_len,
         records,
     );
-    let plainly = plain::check(
+    let plainly = plain::check_from(
+        choice,
         batch,
         batch_at,
         state,

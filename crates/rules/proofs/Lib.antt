@@ -19,3 +19,4 @@ pub mod Readings
 pub mod Deciding
 pub mod HeaderParts
 pub mod Writing
+pub mod Starting

@@ -49,16 +49,16 @@ abbrev pub InPlace : Capture → Fault → Type 0
 InPlace c f = ((f .window ≡ batchWindow) × (f .index ≤ length (c .batch))) ⊎ ((f .window ≡ stateWindow) × (f .index < length (c .state)))
 
 -- what a check that fails says
-given-fault : (t : Bool) {g f : Fault} → refuseIf t g ≡ Fails f → (t ≡ true) × (g ≡ f)
+pub given-fault : (t : Bool) {g f : Fault} → refuseIf t g ≡ Fails f → (t ≡ true) × (g ≡ f)
 given-fault true e = (refl, same-fault e)
 given-fault false e = absurd (fails-not-pass (sym e))
 
-record FoundAt (reason : Reason) (window from n : ℕ) (f : Fault) : Type 0 where
-  at : ℕ
-  below : at < n
-  is : fault reason window (from + at) ≡ f
+pub record FoundAt (reason : Reason) (window from n : ℕ) (f : Fault) : Type 0 where
+  pub at : ℕ
+  pub below : at < n
+  pub is : fault reason window (from + at) ≡ f
 
-found-fault : (reason : Reason) (window from n : ℕ) (bad : ℕ → Bool) {f : Fault}
+pub found-fault : (reason : Reason) (window from n : ℕ) (bad : ℕ → Bool) {f : Fault}
     → refuseFound reason window from (firstOf bad n) ≡ Fails f → FoundAt reason window from n f
 found-fault reason window from n bad {f} e = by (firstOf bad n) refl e
   where
@@ -249,11 +249,11 @@ module _ (c : Capture) (s : Cursor) (w : Within c s) where
       (split h _ _ (x₆ .1))) (split h _ _ (refused-by c s e))
 
 -- what each check of a list says where it fails, the list says
-abbrev AllSay : {A : Type 0} → (Fault → Type 0) → List (A → Verdict) → A → Type 0
+abbrev pub AllSay : {A : Type 0} → (Fault → Type 0) → List (A → Verdict) → A → Type 0
 AllSay said [] a = Unit {0}
 AllSay said (check ∷ checks) a = ((f : Fault) → check a ≡ Fails f → said f) × AllSay said checks a
 
-list-says : {A : Type 0} (said : Fault → Type 0) (checks : List (A → Verdict)) (a : A) → AllSay said checks a → (f : Fault)
+pub list-says : {A : Type 0} (said : Fault → Type 0) (checks : List (A → Verdict)) (a : A) → AllSay said checks a → (f : Fault)
     → firstFault checks a ≡ Fails f → said f
 list-says said [] a p f e = absurd (none-fails a e)
 list-says said (check ∷ checks) a p f e = ⊎-elim (p .0 f) (λ q. list-says said checks a (p .1) f (q .1)) (split a check checks e)

@@ -2,19 +2,21 @@
 use Prim.Native.Nat.{ℕ}
 use mathlib.Core.Path.{_≡_, refl}
 use mathlib.Core.Bool.{Bool, true, false, _&&_}
-use mathlib.Core.List.{List, [], _∷_, _++_}
+use mathlib.Core.List.{List, [], _∷_, _++_, map}
 use lib.ListN.{length, drop}
 use lib.Dec.{eqb}
 use Rattle.rules.specs.declared.Answer.{Answer}
-use Rattle.rules.specs.declared.Base.the-variants.{Unset}
+use Rattle.rules.specs.declared.BaseChoice.{BaseChoice}
+use Rattle.rules.specs.declared.BaseChoice.the-variants.{StateWindow, NoBase}
 use Rattle.rules.specs.Windows.{Capture}
-use Rattle.rules.specs.Walk.{Run, walk, answerOf}
+use Rattle.rules.specs.Walk.{Run, walk, startingBase, answerOf}
 use Rattle.rules.specs.Records.{writtenOf, roomOf}
 use Rattle.rules.specs.Book.{book}
 
--- the table of "Cases": the number, "Batch", what the record buffer held, and "Answer" with its records
+-- the table of "Cases": the number, the base that its walk starts with, "Batch", what the record buffer held, and "Answer" with its records
 pub record Case : Type 0 where
   pub number : ℕ
+  pub choice : BaseChoice
   pub batch : List ℕ
   pub before : List ℕ
   pub reason : ℕ
@@ -36,12 +38,28 @@ ample = 0xEEEEE001 ∷ 0xEEEEE002 ∷ 0xEEEEE003 ∷ 0xEEEEE004 ∷ 0xEEEEE005 �
 abbrev pub fourWords : List ℕ
 fourWords = 0xEEEEE001 ∷ 0xEEEEE002 ∷ 0xEEEEE003 ∷ 0xEEEEE004 ∷ []
 
--- a line of the table, "C", "Batch", "Answer"; every case has its place in window 0
+-- a line of the table, "C", "Batch", "Answer"; every case has its place in window 0. Request 5: "Case C11 is read under "none"", and so is each that
+-- does not say otherwise
 abbrev pub case : ℕ → List ℕ → List ℕ → ℕ → ℕ → ℕ → List ℕ → Case
 case number batch before reason index count records =
-    record { number = number; batch = batch; before = before; reason = reason; window = 0; index = index; count = count; records = records }
+    record { number = number; choice = NoBase; batch = batch; before = before; reason = reason; window = 0; index = index; count = count; records = records }
 
--- the table of "Cases", with the values that it leaves to the rules: the place 0 where none is said, and the records
+-- the same case under the default of request 5
+abbrev pub byDefault : Case → Case
+byDefault k = record {
+  number = k .number;
+  choice = StateWindow;
+  batch = k .batch;
+  before = k .before;
+  reason = k .reason;
+  window = k .window;
+  index = k .index;
+  count = k .count;
+  records = k .records;
+}
+
+-- the table of "Cases", with the values that it leaves to the rules: the place 0 where none is said, and the records; beside C11 what it is
+-- under the default, where the base is the state window's address, and that window is empty
 unfoldable pub cases : List Case
 cases =
     case 1 [] ample 1 0 0 []
@@ -55,6 +73,7 @@ cases =
     ∷ case 9 (0x00000000 ∷ 0x10000002 ∷ 0x00301000 ∷ 0 ∷ 0 ∷ 0x05000000 ∷ []) ample 13 2 1 (0x00010000 ∷ [])
     ∷ case 10 (0x10200003 ∷ 0x00300FFC ∷ 0 ∷ 0 ∷ 0 ∷ []) ample 12 1 0 []
     ∷ case 11 (0x78230000 ∷ 0 ∷ []) ample 14 1 0 []
+    ∷ byDefault (case 11 (0x78230000 ∷ 0 ∷ []) ample 15 1 0 [])
     ∷ case 12 (0x7B000405 ∷ 0x00000200 ∷ 0 ∷ 0 ∷ 0 ∷ 0 ∷ 0 ∷ []) ample 12 1 0 []
     ∷ []
 
@@ -75,7 +94,7 @@ gives run k = sameAnswer (answerOf run) k && sameWords (writtenOf run (k .before
 
 -- "ample room unless said": the walk of a case, in these windows
 abbrev pub runIn : (List ℕ → Capture) → Case → Run
-runIn capture k = walk Unset (capture (k .batch)) (roomOf (length (k .before)))
+runIn capture k = walk (startingBase (k .choice) (capture (k .batch) .stateAt)) (capture (k .batch)) (roomOf (length (k .before)))
 
 -- "proved once over a table of them": a case that is not given is named
 abbrev pub namedIf : Bool → ℕ → List ℕ → List ℕ
@@ -95,3 +114,8 @@ failing ks = failingIn caseCapture ks
 pub cases-hold : failing cases ≡ []
 unfolding cases book
 cases-hold = refl
+
+-- under the default each of them keeps its answer but C11
+pub cases-by-default : failing (map byDefault cases) ≡ 11 ∷ []
+unfolding cases book
+cases-by-default = refl

@@ -13,9 +13,10 @@ use Rattle.rules.specs.declared.Verdict.the-variants.{Pass, Fails}
 use Rattle.rules.specs.declared.Reason.the-variants.{WrongCounts, FileSize, FileDistance, BufferShort}
 use Rattle.rules.specs.declared.Answer.{Answer}
 use Rattle.rules.specs.declared.Base.{Base}
+use Rattle.rules.specs.declared.BaseChoice.{BaseChoice}
 use Rattle.rules.specs.Refusals.{batchWindow, fault, refuseIf, firstFault, Told, told}
 use Rattle.rules.specs.Windows.{Capture, window, countsWrong}
-use Rattle.rules.specs.Walk.{Run, unless, walk, answerOf}
+use Rattle.rules.specs.Walk.{Run, unless, walk, startingBase, answerOf}
 use Rattle.rules.specs.Records.{roomOf, writtenOf}
 
 -- "Little-endian"
@@ -184,10 +185,18 @@ runBy base opened file room = unless (openedVerdict opened) (walk base (fileCapt
 unfoldable pub fileRun : Base → List ℕ → ℕ → ℕ → ℕ → Run
 fileRun base file batchRoom stateRoom room = runBy base (openedOf file batchRoom stateRoom) file room
 
--- "Each public call is promised completely". THE PROMISE of `capture::judge`, whose base is the starting one: the answer for a file, and every word
--- of the three buffers as it returns
+-- "Each public call is promised completely": the answer for a file, whose walk starts with this base, and every word of the three buffers as it returns
 pub record Judged (base : Base) (file batch state records : List ℕ) (answer : Answer) (newBatch newState newRecords : List ℕ) : Type 0 where
   pub answers : answer ≡ answerOf (fileRun base file (length batch) (length state) (roomOf (length records)))
   pub batchFilled : newBatch ≡ filledBy (openedOf file (length batch) (length state)) (batchDwords file) batch
   pub stateFilled : newState ≡ filledBy (openedOf file (length batch) (length state)) (stateDwords file) state
   pub written : newRecords ≡ writtenOf (fileRun base file (length batch) (length state) (roomOf (length records))) records
+
+-- Request 5: the base that is chosen, of the capture that a file holds
+abbrev pub fileBase : BaseChoice → List ℕ → Base
+fileBase choice file = startingBase choice (fileCapture file .stateAt)
+
+-- THE PROMISE of `capture::judge`, by the base that is chosen
+abbrev pub JudgedFrom : BaseChoice → List ℕ → List ℕ → List ℕ → List ℕ → Answer → List ℕ → List ℕ → List ℕ → Type 0
+JudgedFrom choice file batch state records answer newBatch newState newRecords =
+    Judged (fileBase choice file) file batch state records answer newBatch newState newRecords

@@ -19,3 +19,4 @@ pub mod Cases
 pub mod BlendCases
 pub mod CanonicalCases
 pub mod WriterCases
+pub mod BaseCases

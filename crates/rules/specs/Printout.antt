@@ -8,9 +8,11 @@ use mathlib.Core.List.{List, [], _∷_, _++_}
 use lib.Dec.{ltb}
 use Rattle.rules.specs.declared.Command.{Command}
 use Rattle.rules.specs.declared.Answer.{Answer}
+use Rattle.rules.specs.declared.BaseChoice.{BaseChoice}
+use Rattle.rules.specs.declared.BaseChoice.the-variants.{NoBase}
 use Rattle.rules.specs.Walk.{Run, commandsOf, answerOf}
-use Rattle.rules.specs.Records.{roomOf, wordsOf, commandOf, commandsIn, startingBase}
-use Rattle.rules.specs.File.{fileLimit, trailerOf, fileChecks, openedOf, openedVerdict, dwordsFrom, batchDwords, stateDwords, fileCapture, fileRun}
+use Rattle.rules.specs.Records.{roomOf, wordsOf, commandOf, commandsIn}
+use Rattle.rules.specs.File.{fileLimit, trailerOf, fileChecks, openedOf, openedVerdict, dwordsFrom, batchDwords, stateDwords, fileCapture, fileRun, fileBase}
 use Rattle.rules.specs.Book.{book}
 
 -- "in decimal": the bytes of a number, with no leading zero; so many digits at most
@@ -53,10 +55,11 @@ printout answer records = answerLine answer ++ commandLines (commandsIn records)
 abbrev pub recordWords : ℕ
 recordWords = 4096
 
--- "The program lends 4,096 record words and prints": what it prints for a file; the two word buffers hold the largest windows
-unfoldable pub printed : List ℕ → List ℕ
-printed file =
-    let run : Run = fileRun startingBase file fileLimit fileLimit (roomOf recordWords) in printout (answerOf run) (wordsOf (commandsOf run))
+-- "The program lends 4,096 record words and prints": what it prints for a file; the two word buffers hold the largest windows. Request 5: "The drill
+-- program and the printout relied on 14 to spot captures cut too late: both now ask for "none" by name and keep their old answers"
+unfoldable pub printed : BaseChoice → List ℕ → List ℕ
+printed choice file =
+    let run : Run = fileRun (fileBase choice file) file fileLimit fileLimit (roomOf recordWords) in printout (answerOf run) (wordsOf (commandsOf run))
 
 -- "For batch 00000000h, 05000000h": its file, in the windows of "Cases", with no state dword
 abbrev exampleFile : List ℕ
@@ -73,6 +76,6 @@ exampleFile =
     ∷ []
 
 -- "For batch 00000000h, 05000000h": the document's own example, the file's bytes in and the three lines out
-pub the-example : printed exampleFile ≡ bytes "reason 0 window 0 index 0 commands 2\n0 0 0 1\n1 0 1 1\n"
+pub the-example : printed NoBase exampleFile ≡ bytes "reason 0 window 0 index 0 commands 2\n0 0 0 1\n1 0 1 1\n"
 unfolding book trailerOf fileChecks openedOf openedVerdict dwordsFrom batchDwords stateDwords fileCapture fileRun digitsOf answerLine commandLine commandLines printout printed
 the-example = refl

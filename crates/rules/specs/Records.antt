@@ -4,12 +4,12 @@ use mathlib.Core.Path.{_≡_}
 use mathlib.Core.List.{List, [], _∷_, _++_}
 use lib.ListN.{length, drop}
 use Rattle.rules.specs.declared.Base.{Base}
-use Rattle.rules.specs.declared.Base.the-variants.{Unset}
+use Rattle.rules.specs.declared.BaseChoice.{BaseChoice}
 use Rattle.rules.specs.declared.Command.{Command}
 use Rattle.rules.specs.declared.Answer.{Answer}
 use Rattle.rules.specs.Words.{field}
 use Rattle.rules.specs.Windows.{Capture}
-use Rattle.rules.specs.Walk.{Run, walk, commandsOf, answerOf}
+use Rattle.rules.specs.Walk.{Run, walk, startingBase, commandsOf, answerOf}
 
 -- "A record is one word: ..": a command's record
 unfoldable pub recordOf : Command → ℕ
@@ -49,12 +49,13 @@ roomOf words = words / wordsFor 1
 unfoldable pub writtenOf : Run → List ℕ → List ℕ
 writtenOf run old = wordsOf (commandsOf run) ++ drop (length (wordsOf (commandsOf run))) old
 
--- the starting base of document 01: "no dynamic base"
-abbrev pub startingBase : Base
-startingBase = Unset
-
--- "Each public call is promised completely: answer, records and every untouched word". THE PROMISE of `walk::check`, whose base is the starting
--- one: its answer, and every word of the record buffer as it returns, by the walk of the capture
+-- "Each public call is promised completely: answer, records and every untouched word": an answer, and every word of the record buffer as it
+-- returns, by the walk of the capture from a starting base
 pub record Checked (base : Base) (c : Capture) (old : List ℕ) (answer : Answer) (new : List ℕ) : Type 0 where
   pub answers : answer ≡ answerOf (walk base c (roomOf (length old)))
   pub written : new ≡ writtenOf (walk base c (roomOf (length old))) old
+
+-- THE PROMISE of `walk::check_from` and `plain::check_from`; that of `check` is the same from `StateWindow`. Request 5: "The default at the start
+-- of a walk becomes the state window's address, and a caller may choose "none" instead."
+abbrev pub CheckedFrom : BaseChoice → Capture → List ℕ → Answer → List ℕ → Type 0
+CheckedFrom choice c old answer new = Checked (startingBase choice (c .stateAt)) c old answer new

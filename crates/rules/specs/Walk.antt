@@ -5,6 +5,9 @@ use mathlib.Core.List.{List, [], _∷_, _++_}
 use lib.ListN.{length}
 use Rattle.rules.specs.declared.Level.the-variants.{First}
 use Rattle.rules.specs.declared.Base.{Base}
+use Rattle.rules.specs.declared.Base.the-variants.{Unset, Set}
+use Rattle.rules.specs.declared.BaseChoice.{BaseChoice}
+use Rattle.rules.specs.declared.BaseChoice.the-variants.{StateWindow, NoBase}
 use Rattle.rules.specs.declared.Cursor.{Cursor}
 use Rattle.rules.specs.declared.Command.{Command}
 use Rattle.rules.specs.declared.After.the-variants.{Ends, To}
@@ -40,6 +43,12 @@ cut (suc room) (then command rest) = then command (cut room rest)
 -- "Start at dword 0, level 0, no dynamic base"; the starting base is a parameter
 abbrev pub start : Base → Cursor
 start base = cursor 0 First base
+
+-- Request 5: "The default at the start of a walk becomes the state window's address, and a caller may choose "none" instead." The address is the
+-- base whether the window is empty or not.
+abbrev pub startingBase : BaseChoice → ℕ → Base
+startingBase StateWindow stateAt = Set stateAt
+startingBase NoBase stateAt = Unset
 
 -- "The walk", from a cursor on, its first step included
 abbrev pub traceFrom : ℕ → Capture → Cursor → Run

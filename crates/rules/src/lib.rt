@@ -123,6 +123,12 @@ pub enum Base {
     Set(u64),
 }
 
+// Which base a walk starts with (request 5): the state window's address, which is the default, or none.
+pub enum BaseChoice {
+    StateWindow,
+    NoBase,
+}
+
 // Where a walk stands.
 pub struct Cursor {
     pub at: usize,

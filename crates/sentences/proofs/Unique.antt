@@ -4,6 +4,7 @@ use Prim.Native.Nat.{ℕ}
 use mathlib.Core.Path.{_≡_}
 use mathlib.Core.List.{List}
 use Rattle.rules.specs.declared.Answer.{Answer}
+use Rattle.rules.specs.declared.BaseChoice.{BaseChoice}
 use Rattle.lines.specs.Lines.{Line}
 use Rattle.lines.proofs.Unique.{one-line}
 use Rattle.sentences.specs.declared.Unread.{Unread}
@@ -34,9 +35,9 @@ module _ {old new new′ : List ℕ} {r r′ : ℕ} where
   pub unlisted-total-unique : (count : ℕ) → Line (unlistedTotal count) old r new → Line (unlistedTotal count) old r′ new′ → (r ≡ r′) × (new ≡ new′)
   unlisted-total-unique count = one-line
 
-  pub totals-line-unique : (accepted refused unread missing : ℕ) → Line (totalsLine accepted refused unread missing) old r new
-      → Line (totalsLine accepted refused unread missing) old r′ new′ → (r ≡ r′) × (new ≡ new′)
-  totals-line-unique accepted refused unread missing = one-line
+  pub totals-line-unique : (accepted refused unread missing : ℕ) (choice : BaseChoice) → Line (totalsLine accepted refused unread missing choice) old r new
+      → Line (totalsLine accepted refused unread missing choice) old r′ new′ → (r ≡ r′) × (new ≡ new′)
+  totals-line-unique accepted refused unread missing choice = one-line
 
   pub refused-words-unique : (reason : ℕ) (detail : Detail) → Line (refusedWords reason detail) old r new
       → Line (refusedWords reason detail) old r′ new′ → (r ≡ r′) × (new ≡ new′)

@@ -1,6 +1,7 @@
 -- A line of each kind, and of each detail, shown by computation.
 use mathlib.Core.Path.{_≡_, refl}
 use mathlib.Core.List.{_++_}
+use Rattle.rules.specs.declared.BaseChoice.the-variants.{StateWindow, NoBase}
 use Rattle.rules.specs.declared.Within.the-variants.{ScratchOnly}
 use Rattle.rules.specs.Commands.{storeRow, setRegistersRow}
 use Rattle.rules.specs.Printout.{digitsOf, bytes}
@@ -8,7 +9,7 @@ use Rattle.sentences.specs.declared.Unread.the-variants.{NoSuchFile, Fol
 use Rattle.sentences.specs.declared.Detail.the-variants.{NoMore, InCommand, Reach, HasBytes, HasTooMany}
 use Rattle.lines.specs.Hexadecimal.{hexDigit, hexDigits}
 use Rattle.sentences.specs.Words.{wordsIn, reasonTable, writingTable, commandTable, accessTable, withinWords, errorTable}
-use Rattle.sentences.specs.Lines.{commandsText, windowText, dwordText, placeText, progressText, acceptedLine, refusedLine, unreadLine, totalsLine, writingLine}
+use Rattle.sentences.specs.Lines.{commandsText, windowText, dwordText, placeText, progressText, acceptedLine, refusedLine, unreadLine, baseText, totalsLine, writingLine}
 use Rattle.sentences.specs.Lines.{bytesText, commandText, addressText, reachText, sizeText, detailText, refusedWords, errorText, unreadWords, isMissing}
 
 -- a capture that is accepted
@@ -83,10 +84,14 @@ pub an-error-by-number : unreadWords (Other 117) ≡ bytes "it cannot be read: e
 unfolding digitsOf unreadWords errorText
 an-error-by-number = refl
 
--- the last line
-pub a-totals-line : totalsLine 2 1 0 0 ≡ bytes "2 accepted, 1 refused, 0 unread, 0 missing\n"
-unfolding digitsOf totalsLine
+-- the last line, by either base
+pub a-totals-line : totalsLine 2 1 0 0 StateWindow ≡ bytes "2 accepted, 1 refused, 0 unread, 0 missing; base: state window\n"
+unfolding digitsOf baseText totalsLine
 a-totals-line = refl
+
+pub a-totals-line-without-a-base : totalsLine 1 2 0 0 NoBase ≡ bytes "1 accepted, 2 refused, 0 unread, 0 missing; base: none\n"
+unfolding digitsOf baseText totalsLine
+a-totals-line-without-a-base = refl
 
 -- a line of compose's that is refused
 pub a-writing-line : writingLine (bytes "mine.txt") 3 22 ≡ bytes "lungevati: mine.txt: line 3: refused, 22: there is no room for it in the 4,096 dwords\n"

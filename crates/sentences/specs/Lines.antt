@@ -4,6 +4,8 @@ use mathlib.Core.Bool.{Bool, true, false, cond}
 use mathlib.Core.List.{List, [], _++_}
 use lib.Dec.{eqb, ltb}
 use Rattle.rules.specs.declared.Answer.{Answer}
+use Rattle.rules.specs.declared.BaseChoice.{BaseChoice}
+use Rattle.rules.specs.declared.BaseChoice.the-variants.{StateWindow, NoBase}
 use Rattle.rules.specs.declared.Within.{Within}
 use Rattle.rules.specs.Printout.{decimal, bytes}
 use Rattle.sentences.specs.declared.Unread.{Unread}
@@ -121,11 +123,16 @@ reasonLine reason count =
 unfoldable pub unlistedTotal : ℕ → List ℕ
 unlistedTotal count = decimal count ++ bytes " not listed\n"
 
--- "2 accepted, 1 refused, 0 unread, 0 missing"
-unfoldable pub totalsLine : ℕ → ℕ → ℕ → ℕ → List ℕ
-totalsLine accepted refused unread missing =
+-- request 5: the base that the captures were judged by
+unfoldable pub baseText : BaseChoice → List ℕ
+baseText StateWindow = bytes "; base: state window"
+baseText NoBase = bytes "; base: none"
+
+-- "2 accepted, 1 refused, 0 unread, 0 missing; base: state window"
+unfoldable pub totalsLine : ℕ → ℕ → ℕ → ℕ → BaseChoice → List ℕ
+totalsLine accepted refused unread missing choice =
     (decimal accepted ++ bytes " accepted, ") ++ (decimal refused ++ bytes " refused, ") ++ (decimal unread ++ bytes " unread, ")
-    ++ (decimal missing ++ bytes " missing\n")
+    ++ (decimal missing ++ bytes " missing") ++ baseText choice ++ bytes "\n"
 
 -- "lungevati: mine.txt: line 3: refused, 7: the table has no such row"
 unfoldable pub writingLine : List ℕ → ℕ → ℕ → List ℕ

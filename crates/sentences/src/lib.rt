@@ -1,5 +1,6 @@
 // What audit says of a capture, in plain words: the line of a file, and the line of the totals. And what compose says of a line that is refused.
 use crate::details::put_refusal;
+use crate::parts::put_base;
 use crate::parts::put_both;
 use crate::parts::put_commands;
 use crate::parts::put_count;
@@ -16,6 +17,7 @@ use lines::put_byte;
 use lines::put_digits;
 use lines::put_text;
 use rules::Answer;
+use rules::BaseChoice;
 use rules::Within;
 ghost use Prim.Native.Nat.{_≤_};
 ghost use mathlib.Core.Path.{_≡_};
@@ -153,19 +155,23 @@ pub fn unlisted_total(line: &mut [u8; LINE_BYTES], count: u64) -> usize
     put_count(line, 0, count as usize, b" not listed\n")
 }
 
+// The totals, and the base that the captures were judged by.
 pub fn totals_line(
     line: &mut [u8; LINE_BYTES],
     accepted: u64,
     refused: u64,
     unread: u64,
     missing: u64,
+    choice: BaseChoice,
 ) -> usize
-    ensures { λ r. ⌜ Line (totalsLine accepted refused unread missing) (now (line .entry)) r (now (line .exit)) ⌝ }
+    ensures { λ r. ⌜ Line (totalsLine accepted refused unread missing choice) (now (line .entry)) r (now (line .exit)) ⌝ }
 {
     let second = put_count(line, 0, accepted as usize, b" accepted, ");
     let third = put_count(line, second, refused as usize, b" refused, ");
     let fourth = put_count(line, third, unread as usize, b" unread, ");
-    put_count(line, fourth, missing as usize, b" missing\n")
+    let base = put_count(line, fourth, missing as usize, b" missing");
+    let end = put_base(line, base, choice);
+    put_byte(line, end, b'\n')
 }
 
 // Of a line of compose's input that the writer refuses, by the number of the line and the writer's.

@@ -6,13 +6,14 @@ use lines::put_digits;
 use lines::put_hex;
 use lines::put_text;
 use rules::Answer;
+use rules::BaseChoice;
 ghost use Prim.Native.Nat.{_+_, _≤_, _<_};
 ghost use mathlib.Core.Path.{_≡_};
 ghost use mathlib.Core.List.{_++_};
 ghost use lib.ListN.{length};
 ghost use Rattle.rules.specs.Printout.{decimal};
 ghost use Rattle.lines.specs.Lines.{Put};
-ghost use Rattle.sentences.specs.Lines.{commandsText, windowText, dwordText, placeText, progressText};
+ghost use Rattle.sentences.specs.Lines.{commandsText, windowText, dwordText, placeText, progressText, baseText};
 
 // Two texts, the second behind the first: the name of a file, and what is said of it.
 pub fn put_both(line: &mut [u8], at: usize, first: &[u8], second: &[u8]) -> usize
@@ -92,4 +93,15 @@ pub fn put_progress(line: &mut [u8], at: usize, answer: Answer, dword: u32) -> u
     let after = put_place(line, at, answer, dword);
     let count = put_text(line, after, b" after ");
     put_commands(line, count, answer.count)
+}
+
+// The base that captures were judged by.
+pub fn put_base(line: &mut [u8], at: usize, choice: BaseChoice) -> usize
+    requires { ⌜ at + 20 ≤ length (now line) ⌝ }
+    ensures { λ r. ⌜ Put at 20 (baseText choice) (now (line .entry)) r (now (line .exit)) ⌝ }
+{
+    match choice {
+        BaseChoice::StateWindow => put_text(line, at, b"; base: state window"),
+        BaseChoice::NoBase => put_text(line, at, b"; base: none"),
+    }
 }

@@ -5,7 +5,6 @@ ghost use lib.ListN.{length};
 ghost use Rattle.rules.specs.Formats.{surfaceFormats};
 ghost use Rattle.rows.specs.Masks.{maskTable};
 ghost use Rattle.looks.specs.Looks.{lookOf};
-use looks::Engine;
 use looks::Look;
 use rules::Level;
 use rules::Windows;
@@ -13,7 +12,7 @@ use rules::names::ROWS;
 
 // The tables are lent for the table engine; the plain one has its rules written out.
 pub fn looked(
-    engine: Engine,
+    plainly: bool,
     batch: &[u32],
     w: Windows,
     at: usize,
@@ -24,8 +23,9 @@ pub fn looked(
     requires { ⌜ (at < length (now batch)) × (now masks ≡ maskTable) × (now formats ≡ surfaceFormats) ⌝ }
     ensures { λ r. ⌜ r ≡ lookOf w (now (batch .entry)) at level ⌝ }
 {
-    match engine {
-        Engine::Table => search::looked::looked(batch, w, at, level, masks, formats),
-        Engine::Plain => plain_3d::looked(batch, w, at, level),
+    if plainly {
+        plain_3d::looked(batch, w, at, level)
+    } else {
+        search::looked::looked(batch, w, at, level, masks, formats)
     }
 }

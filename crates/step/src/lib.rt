@@ -10,7 +10,6 @@ ghost use Rattle.step.specs.Parts.{captured, Fitted, SmallBase};
 use engines::looked;
 use faults::pointer_of;
 use faults::structure_fault;
-use looks::Engine;
 use looks::Look;
 use onward::level_number;
 use onward::move_of;
@@ -35,7 +34,7 @@ fn refused(reason: Reason, index: usize) -> Outcome
 
 // One step of the walk: the first fault of the command at the cursor (6 to 17), or the command and where it leads. By either engine.
 pub fn step<'a>(
-    engine: Engine,
+    plainly: bool,
     batch: &'a [u32],
     state: &'a [u32],
     w: Windows,
@@ -52,7 +51,7 @@ pub fn step<'a>(
     if batch.len() <= at {
         return refused(Reason::RanOff, at);
     }
-    match looked(engine, batch, w, at, level, masks, formats) {
+    match looked(plainly, batch, w, at, level, masks, formats) {
         Look::Wrong(f) => Outcome::Refused(f),
         Look::Whole(row, length) => {
             let next = at + length;

@@ -8,13 +8,15 @@ use mathlib.Core.Bool.{Bool, true, false, cond, _&&_}
 use mathlib.Core.List.{List, [], _∷_, _++_, append-nil}
 use mathlib.Core.Logic.{⊎-elim}
 use lib.ListN.{length, getD, drop, set, length-append}
-use lib.Dec.{eqb}
+use lib.Dec.{lit<, eqb}
 use borrow.Author.Tests.{eqb-true, eqb-false}
 use borrow.Rule.Slice.PartMut.{putMid, midOf, mid-len, set-mid-at}
 use Rattle.rules.specs.declared.Windows.{Windows}
 use Rattle.rules.specs.declared.Answer.{Answer}
 use Rattle.rules.specs.declared.Base.{Base}
 use Rattle.rules.specs.declared.Base.the-variants.{Unset, Set}
+use Rattle.rules.specs.declared.BaseChoice.{BaseChoice}
+use Rattle.rules.specs.declared.BaseChoice.the-variants.{StateWindow, NoBase}
 use Rattle.rules.specs.declared.Level.{Level}
 use Rattle.rules.specs.declared.Level.the-variants.{First, Second}
 use Rattle.rules.specs.declared.Cursor.{Cursor}
@@ -30,7 +32,7 @@ use Rattle.rules.specs.Refusals.{answerWith}
 use Rattle.rules.specs.Windows.{Capture, windowsOf, lengthsOf, windowFault, windowLimit}
 use Rattle.rules.specs.Commands.{baseRow}
 use Rattle.rules.specs.Step.{budget, spentAt, fullAt, newBase, baseAfter, levelNumber, commandAt, stepOf}
-use Rattle.rules.specs.Walk.{Run, ended, then, trace, traceFrom, cut, start, commandsOf, endOf, answerOf}
+use Rattle.rules.specs.Walk.{Run, ended, then, trace, traceFrom, cut, start, startingBase, commandsOf, endOf, answerOf}
 use Rattle.rules.specs.Records.{recordOf, wordsOf, wordsFor, roomOf, writtenOf, Checked}
 use Rattle.rules.proofs.Searching.{never-both}
 use Rattle.rules.proofs.Listing.{words-counted, no-words, withRecord, record-added, with-record-long, room-is, record-put}
@@ -38,6 +40,7 @@ use Rattle.rules.proofs.Running.{follow, commands-follow, end-follows}
 use Rattle.rules.proofs.Stepping.{took}
 use Rattle.rules.proofs.Walking.{walk-sound, walk-unsound}
 use Rattle.rules.proofs.Places.{refusal-place}
+use Rattle.rules.proofs.Ranges.{sound as windows-sound}
 use Rattle.rules.proofs.Moving.{Within, Way, ends, returns, jumps, calls, goes-on, taken-way, same-cursor, ends-nowhere}
 use Rattle.rules.proofs.Moving.{stays-within, starts-within}
 use Rattle.step.specs.Parts.{captured, Fitted, SmallBase}
@@ -93,15 +96,15 @@ none-left k n h = omega arith
 new-base-small : (d : List ℕ) → newBase d < 2 ^ 48
 new-base-small d = omega arith
 
+same-base : {a b : ℕ} → Set a ≡ Set b → a ≡ b
+same-base q = cc
+
 base-small : (r : ℕ) (d : List ℕ) {base : Base} → SmallBase base → SmallBase (baseAfter r d base)
 unfolding baseAfter
 base-small r d {base} s = by (eqb r baseRow && bit (getD d 6 0) 0)
   where
-    same : {a b : ℕ} → Set a ≡ Set b → a ≡ b
-    same e = cc
-
     by : (t : Bool) → SmallBase (cond t (Set (newBase d)) base)
-    by true = record { small = λ b e. omega (arith, same e, new-base-small d) }
+    by true = record { small = λ b e. omega (arith, same-base e, new-base-small d) }
     by false = s
 
 small-next : (c : Capture) (s : Cursor) {k : Command} {t : Cursor} → SmallBase (s .base) → stepOf c s ≡ Taken k (To t)
@@ -223,21 +226,22 @@ module _ {base : Base} {c : Capture} {old new : List ℕ} {n : ℕ} {s : Cursor}
       (λ q. (omega (arith, q .0), omega (arith, q .1), omega arith))
       (refusal-place c s (g .within) e)
 
--- behind the checks 1 to 4: the promise of the public call
-pub unsound : (c : Capture) (old : List ℕ) {f : Fault} → windowFault (lengthsOf c) ≡ Fails f
-    → Checked Unset c old (answerWith (Fails f) 0) old
+-- behind the checks 1 to 4: the promise of the public call, from whatever base
+pub unsound : (base : Base) (c : Capture) (old : List ℕ) {f : Fault} → windowFault (lengthsOf c) ≡ Fails f
+    → Checked base c old (answerWith (Fails f) 0) old
 unfolding answerOf writtenOf commandsOf endOf wordsOf
-unsound c old e = record {
-  answers = rw (walk-unsound Unset c (roomOf (length old)) e);
-  written = rw (walk-unsound Unset c (roomOf (length old)) e);
+unsound base c old e = record {
+  answers = rw (walk-unsound base c (roomOf (length old)) e);
+  written = rw (walk-unsound base c (roomOf (length old)) e);
 }
 
-pub sound : (c : Capture) (old : List ℕ) {r : Answer} {new : List ℕ} → windowFault (lengthsOf c) ≡ Pass → Ran Unset c old r new
-    → Checked Unset c old r new
-sound c old e p = record {
-  answers = rw (walk-sound Unset c (roomOf (length old)) e) (p .answers);
-  written = rw (walk-sound Unset c (roomOf (length old)) e) (p .written);
-}
+pub sound : (base : Base) (c : Capture) (old : List ℕ) {made : Base} {r : Answer} {new : List ℕ} → windowFault (lengthsOf c) ≡ Pass
+    → made ≡ base → Ran made c old r new → Checked base c old r new
+sound base c old e m p =
+    let q = rw m at p in record {
+      answers = rw (walk-sound base c (roomOf (length old)) e) (q .answers);
+      written = rw (walk-sound base c (roomOf (length old)) e) (q .written);
+    }
 
 -- what the windows' numbers are known to be
 pub fitting : (c : Capture) {w : Windows} → w ≡ windowsOf c → Fitted w (c .batch) (c .state)
@@ -248,8 +252,13 @@ pub captured-is : (c : Capture) {w : Windows} → w ≡ windowsOf c → captured
 unfolding windowsOf
 captured-is c e = rw e
 
-pub no-base : SmallBase Unset
-no-base = record { small = λ b e. absurd (let z : _≡_ {A = ℕ} 0 1 = cc in omega arith) }
+-- the base that is chosen is small: a sound state window lies at or below 2^48, where it ends
+pub chosen-small : (choice : BaseChoice) (c : Capture) → windowFault (lengthsOf c) ≡ Pass → SmallBase (startingBase choice (c .stateAt))
+unfolding windowsOf
+chosen-small NoBase c e = record { small = λ b q. absurd (let z : _≡_ {A = ℕ} 0 1 = cc in omega arith) }
+chosen-small StateWindow c e =
+    let ends = windows-sound (lengthsOf c) e .ends 1 (lit< tt) in
+    record { small = λ b q. omega (arith, same-base q) }
 
 pub judged : (c : Capture) {w : Windows} {v : Verdict} → w ≡ windowsOf c
     → v ≡ windowFault (record { batch = length (c .batch); state = length (c .state); windows = w })

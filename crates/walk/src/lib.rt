@@ -6,19 +6,20 @@ ghost use Rattle.rules.specs.declared.Verdict.the-variants.{Fails};
 ghost use Rattle.rules.specs.Refusals.{answerWith};
 ghost use Rattle.rules.specs.Windows.{windowLimit, windowsOf};
 ghost use Rattle.rules.specs.Step.{budget, spentAt, fullAt};
-ghost use Rattle.rules.specs.Walk.{start};
-ghost use Rattle.rules.specs.Records.{startingBase, roomOf, Checked};
+ghost use Rattle.rules.specs.declared.BaseChoice.the-variants.{StateWindow};
+ghost use Rattle.rules.specs.Walk.{start, startingBase};
+ghost use Rattle.rules.specs.Records.{roomOf, CheckedFrom};
 ghost use Rattle.step.specs.Parts.{captured, Fitted, SmallBase};
 ghost use Rattle.walk.specs.Lent.{lentCapture, stopFor, Ran};
 use answers::acceptance;
 use answers::refusal;
-use looks::Engine;
 use records::record_of;
 use records::write_record;
 use rows::mask_table;
 use rules::After;
 use rules::Answer;
 use rules::Base;
+use rules::BaseChoice;
 use rules::Cursor;
 use rules::Fault;
 use rules::Level;
@@ -42,7 +43,7 @@ const BUDGET: usize = 65536;
 
 // The run of a capture whose windows are sound, from its first dword on. The tables are written out here, once for a run, and lent down.
 fn run<'a>(
-    engine: Engine,
+    plainly: bool,
     batch: &'a [u32],
     state: &'a [u32],
     w: Windows,
@@ -59,7 +60,7 @@ fn run<'a>(
     let mut turn = turn_at(started(base));
     loop {
         let s = turn.cursor;
-        match step(engine, batch, state, w, s, &masks, &formats) {
+        match step(plainly, batch, state, w, s, &masks, &formats) {
             Outcome::Refused(f) => return stopped(f, s.at, n),
             Outcome::Taken(command, after) => {
                 if n == room {
@@ -145,10 +146,22 @@ fn windows_of(
     }
 }
 
-// Whether the capture runs to its end by the engine that is asked for, and the records of its commands. It is for the engines' own
-// calls, and a program has one of these: one that reaches both engines through this loop pays for the choice in every command.
+// The base that a run starts with: the state window's address, whether the window is empty or not, or none.
+fn starting_base(choice: BaseChoice, state_at: u64) -> Base
+    ensures { λ r. ⌜ r ≡ startingBase choice «state_at» ⌝ }
+{
+    match choice {
+        BaseChoice::StateWindow => Base::Set(state_at),
+        BaseChoice::NoBase => Base::Unset,
+    }
+}
+
+// Whether the capture runs to its end by one of the engines, the plain one or else the table's, from the base that is chosen, and the records of its
+// commands. It is for the engines' own calls, and a program has those of one: one that reaches both engines through this loop pays for it in every command.
+// Which engine is a bool and no enum: an enum is passed by its address, and the compiler would keep both engines in the loop where there are two callers.
 pub fn check_by<'a>(
-    engine: Engine,
+    plainly: bool,
+    choice: BaseChoice,
     batch: &'a [u32],
     batch_at: u64,
     state: &'a [u32],
@@ -157,16 +170,43 @@ pub fn check_by<'a>(
     scratch_len: u32,
     records: &mut [u32],
 ) -> Answer
-    ensures { λ r. ⌜ Checked startingBase (lentCapture (now (batch .entry)) «batch_at» (now (state .entry)) «state_at» «scratch_at» «scratch_len») (now (records .entry)) r (now (records .exit)) ⌝ }
+    ensures { λ r. ⌜ CheckedFrom choice (lentCapture (now (batch .entry)) «batch_at» (now (state .entry)) «state_at» «scratch_at» «scratch_len») (now (records .entry)) r (now (records .exit)) ⌝ }
 {
     let w = windows_of(batch, batch_at, state, state_at, scratch_at, scratch_len);
     if let Verdict::Fails(f) = windows::sound(batch.len(), state.len(), w) {
         return refusal(f, 0);
     }
-    run(engine, batch, state, w, Base::Unset, records)
+    let base = starting_base(choice, state_at);
+    run(plainly, batch, state, w, base, records)
 }
 
-// THE PUBLIC CALL of the table engine: whether the capture runs to its end, and the records of its commands.
+// THE PUBLIC CALL of the table engine, from the base that is chosen: whether the capture runs to its end, and the records of its commands.
+pub fn check_from<'a>(
+    choice: BaseChoice,
+    batch: &'a [u32],
+    batch_at: u64,
+    state: &'a [u32],
+    state_at: u64,
+    scratch_at: u64,
+    scratch_len: u32,
+    records: &mut [u32],
+) -> Answer
+    ensures { λ r. ⌜ CheckedFrom choice (lentCapture (now (batch .entry)) «batch_at» (now (state .entry)) «state_at» «scratch_at» «scratch_len») (now (records .entry)) r (now (records .exit)) ⌝ }
+{
+    check_by(
+        false,
+        choice,
+        batch,
+        batch_at,
+        state,
+        state_at,
+        scratch_at,
+        scratch_len,
+        records,
+    )
+}
+
+// THE PUBLIC CALL of the table engine by the default: the same from the state window's address.
 pub fn check<'a>(
     batch: &'a [u32],
     batch_at: u64,
@@ -176,10 +216,10 @@ pub fn check<'a>(
     scratch_len: u32,
     records: &mut [u32],
 ) -> Answer
-    ensures { λ r. ⌜ Checked startingBase (lentCapture (now (batch .entry)) «batch_at» (now (state .entry)) «state_at» «scratch_at» «scratch_len») (now (records .entry)) r (now (records .exit)) ⌝ }
+    ensures { λ r. ⌜ CheckedFrom StateWindow (lentCapture (now (batch .entry)) «batch_at» (now (state .entry)) «state_at» «scratch_at» «scratch_len») (now (records .entry)) r (now (records .exit)) ⌝ }
 {
-    check_by(
-        Engine::Table,
+    check_from(
+        BaseChoice::StateWindow,
         batch,
         batch_at,
         state,

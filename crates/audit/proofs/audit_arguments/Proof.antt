@@ -7,11 +7,11 @@ use Rattle.audit.proofs.audit_arguments.Statement.{statement}
 use Rattle.audit.proofs.audit_arguments.Tie as tie
 
 abbrev Inv-loop : tie.InvT-loop
-Inv-loop wish count entry₀ text₀ line₀ file₀ batch₀ state₀ records₀ reasons₀ run₀ i₀ entry text line file batch state records reasons run i =
+Inv-loop wish count entry₀ text₀ line₀ file₀ batch₀ state₀ records₀ reasons₀ choice run₀ i₀ entry text line file batch state records reasons run i =
     Unit {0}
 
 abbrev μ-loop : tie.MeasureT-loop
-μ-loop wish count entry₀ text₀ line₀ file₀ batch₀ state₀ records₀ reasons₀ run₀ i₀ entry text line file batch state records reasons run i =
+μ-loop wish count entry₀ text₀ line₀ file₀ batch₀ state₀ records₀ reasons₀ choice run₀ i₀ entry text line file batch state records reasons run i =
     count - i
 
 add-i : tie.Need-add-i Inv-loop μ-loop

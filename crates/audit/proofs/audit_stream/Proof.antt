@@ -6,11 +6,11 @@ use Rattle.audit.proofs.audit_stream.Statement.{statement}
 use Rattle.audit.proofs.audit_stream.Tie as tie
 
 abbrev Inv-loop : tie.InvT-loop
-Inv-loop wish entry₀ text₀ line₀ file₀ batch₀ state₀ records₀ reasons₀ last run₀ size at₀ entry text line file batch state records reasons run at =
+Inv-loop wish entry₀ text₀ line₀ file₀ batch₀ state₀ records₀ reasons₀ choice last run₀ size at₀ entry text line file batch state records reasons run at =
     Unit {0}
 
 abbrev μ-loop : tie.MeasureT-loop
-μ-loop wish entry₀ text₀ line₀ file₀ batch₀ state₀ records₀ reasons₀ last run₀ size at₀ entry text line file batch state records reasons run at =
+μ-loop wish entry₀ text₀ line₀ file₀ batch₀ state₀ records₀ reasons₀ choice last run₀ size at₀ entry text line file batch state records reasons run at =
     size - at
 
 pub audit-stream-spec : {M : Type 1} → statement M

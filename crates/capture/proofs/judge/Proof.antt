@@ -41,7 +41,7 @@ unfolding trailerOf
 returns-2 c =
     let checked = c .before .before in
     let trailer = checked .before .before .before .before in
-    read-and-checked (was-read (trailer .before .before)) (trailer .trailer-word .ensures) (checked .check .ensures)
+    read-and-checked (start (called (trailer .before .before)) .args .choice) (was-read (trailer .before .before)) (trailer .trailer-word .ensures) (checked .check-from .ensures)
 
 pub judge-spec : {M : Type 1} → statement M
 judge-spec =

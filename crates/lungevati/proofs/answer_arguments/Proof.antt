@@ -8,10 +8,10 @@ use Rattle.lungevati.proofs.answer_arguments.Statement.{statement}
 use Rattle.lungevati.proofs.answer_arguments.Tie as tie
 
 abbrev Inv-loop : tie.InvT-loop
-Inv-loop page₀ text₀ batch₀ state₀ records₀ bytes₀ count worst₀ i₀ page text batch state records bytes worst i = length bytes ≡ length bytes₀
+Inv-loop choice page₀ text₀ batch₀ state₀ records₀ bytes₀ count worst₀ i₀ page text batch state records bytes worst i = length bytes ≡ length bytes₀
 
 abbrev μ-loop : tie.MeasureT-loop
-μ-loop page₀ text₀ batch₀ state₀ records₀ bytes₀ count worst₀ i₀ page text batch state records bytes worst i = count - i
+μ-loop choice page₀ text₀ batch₀ state₀ records₀ bytes₀ count worst₀ i₀ page text batch state records bytes worst i = count - i
 
 pub answer-arguments-spec : {M : Type 1} → statement M
 answer-arguments-spec =

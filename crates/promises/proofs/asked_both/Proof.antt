@@ -9,8 +9,8 @@ returns : tie.Need-returns
 returns c =
     let table = c .before .before .before .before .before .before in
     let plainly = c .before .before in record {
-      answers = λ e. one-check (rw e at (table .check .ensures)) (plainly .check2 .ensures) .0;
-      written = λ e. one-check (rw e at (table .check .ensures)) (plainly .check2 .ensures) .1;
+      answers = λ e. one-check (rw e at (table .check-from .ensures)) (plainly .check-from2 .ensures) .0;
+      written = λ e. one-check (rw e at (table .check-from .ensures)) (plainly .check-from2 .ensures) .1;
     }
 
 pub asked-both-spec : {M : Type 1} → statement M

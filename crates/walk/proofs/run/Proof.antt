@@ -24,12 +24,12 @@ use Rattle.walk.proofs.run.Statement.{statement}
 use Rattle.walk.proofs.run.Tie as tie
 
 abbrev Inv-loop : tie.InvT-loop
-Inv-loop engine batch state w records₀ masks formats room n₀ turn₀ records n turn =
+Inv-loop plainly batch state w records₀ masks formats room n₀ turn₀ records n turn =
     (Going (turn₀ .cursor .base) (captured w batch state) records₀ records n (turn .cursor)) × (n ≤ room)
     × (turn .level ≡ levelNumber (turn .cursor .level))
 
 abbrev μ-loop : tie.MeasureT-loop
-μ-loop engine batch state w records₀ masks formats room n₀ turn₀ records n turn = room - n
+μ-loop plainly batch state w records₀ masks formats room n₀ turn₀ records n turn = room - n
 
 -- the places before the loop: where the masks are made, where the function starts, where the room is counted, where the first turn is made
 abbrev tables : tie.After-room-in Inv-loop μ-loop → tie.After-mask-table Inv-loop μ-loop

@@ -28,22 +28,22 @@ array-borrow-prefix-records : tie.Need-array-borrow-prefix-records
 unfolding unwritten
 array-borrow-prefix-records c = within _ (c .at-most3 .ensures)
 
-slice-aggregate-check : tie.Need-slice-aggregate-check
+slice-aggregate-check-from : tie.Need-slice-aggregate-check-from
 unfolding unwritten
-slice-aggregate-check c = counted _ (c .before .at-most3 .ensures)
+slice-aggregate-check-from c = counted _ (c .before .at-most3 .ensures)
 
 array-borrow-prefix-twin : tie.Need-array-borrow-prefix-twin
 unfolding unwritten
 array-borrow-prefix-twin c = within _ (c .before .before .before .at-most3 .ensures)
 
-slice-aggregate-check-2 : tie.Need-slice-aggregate-check-2
+slice-aggregate-check-from-2 : tie.Need-slice-aggregate-check-from-2
 unfolding unwritten
-slice-aggregate-check-2 c = let lent = c .before .before .before .before in counted _ (lent .at-most3 .ensures)
+slice-aggregate-check-from-2 c = let lent = c .before .before .before .before in counted _ (lent .at-most3 .ensures)
 
 pub ask-spec : {M : Type 1} → statement M
 ask-spec =
     tie.close
     (tie.spec (λ c. search needs) (λ c κs. tt) slice-aggregate-batch (λ c κs. tt) (λ c. omega arith) (λ c. search needs)
     (λ c. omega arith) (λ c. omega arith) (λ c. omega arith) (λ c κs. tt) (λ c κs. tt)
-    array-borrow-prefix-records slice-aggregate-check (λ c κs. tt) array-borrow-prefix-twin slice-aggregate-check-2 (λ c κs. tt)
+    array-borrow-prefix-records slice-aggregate-check-from (λ c κs. tt) array-borrow-prefix-twin slice-aggregate-check-from-2 (λ c κs. tt)
     (λ c κs. tt) (λ c κs. tt) (λ c κs. tt) (λ c κs. tt) (λ c κs. tt) (λ c. tt) (λ c. tt))
