@@ -2,10 +2,13 @@
  * What each proved engine costs beside the second opinion, and beside the fast checker in C, on the same captures in one run; and the reader of
  * files beside the one in C.
  *   bench ROUNDS ROOM        instructions of each call, counted by the trap flag, and the least time of ROUNDS short rounds, or no
- *                            time if that is 0; ROOM is for how many records: it cuts the loop short, and nothing else if it
- *                            is at least 4,096
+ *                            time if that is 0; ROOM is for how many records, at least 4,096: it cuts the loop short, and says how many dwords of
+ *                            the far captures are run
  * The instructions are exact, and the same in every run. The times are of this machine and of its mood: hence the least of many
  * rounds, and the ratio.
+ *
+ * Each long run is measured twice: in windows of 4,096 dwords, and "far", in windows of 65,536, of which it takes the last dwords, behind a jump: as many as
+ * ROOM says. So with room for 4,096 records the two have the same commands but for the jump, and what they cost shows what the window costs.
  */
 #include "../compare/checker.h"
 
@@ -16,15 +19,19 @@ struct timespec { long s, ns; };
 int clock_gettime(int, struct timespec *);
 void (*signal(int, void (*)(int)))(int);
 
-enum { LIMIT = 4096, BUDGET = 65536, CLOCK_MONOTONIC = 1, SIGTRAP = 5 };
+enum { LIMIT = 4096, FAR_LIMIT = 65536, BUDGET = 65536, CLOCK_MONOTONIC = 1, SIGTRAP = 5 };
 
-static uint32_t batch[LIMIT], state[16], records[BUDGET];
-static size_t batch_len, room;
+static uint32_t batch[FAR_LIMIT], state[FAR_LIMIT], records[2 * (BUDGET + 1)];
+static size_t batch_len, state_len, records_len;
+static size_t room, limit; /* for how many records, and the dwords of the batch that is made */
 
-/* ---- Captures: document 01's windows, and a state window with a colour state and a depth range ---- */
+/* ---- Captures: document 01's windows, and a state window with zeros, which are a colour state and a depth range, in its last page ---- */
 
 static const uint64_t BATCH_AT = 0x100000, STATE_AT = 0x200000, SCRATCH_AT = 0x300000;
-enum { SCRATCH_LEN = 4096, STATE_LEN = 16 };
+enum { SCRATCH_LEN = 4096, STATE_LEN = 16, PAGE_WORDS = 1024 };
+
+/* Where the structures are: the dynamic base of every capture. */
+static uint64_t structures_at(void) { return STATE_AT + (state_len > PAGE_WORDS ? 4 * (state_len - PAGE_WORDS) : 0); }
 
 static void put(const uint32_t *words, size_t count)
 {
@@ -60,7 +67,7 @@ static void put_registers(uint32_t n)
     for (uint32_t i = 0; i < n; i++) PUT(i % 2 ? 0x2600 + 4 * (i % 32) : 0x2430, i);
 }
 
-static void put_base(void) { PUT(0x6101000E, 1, 0, 0, 1, 0, (uint32_t)STATE_AT | 1, 0, 1, 0, 1, 0, 1, 1, 1, 1); }
+static void put_base(void) { PUT(0x6101000E, 1, 0, 0, 1, 0, (uint32_t)structures_at() | 1, 0, 1, 0, 1, 0, 1, 1, 1, 1); }
 
 /* What a frame's worth of commands looks like: every row that goes on by its length, some with few groups. */
 static void put_frame(void)
@@ -79,46 +86,46 @@ static void put_frame(void)
     PUT(0x10000002, (uint32_t)SCRATCH_AT + 4, 0, 7);
     PUT(0x10200003, (uint32_t)SCRATCH_AT + 8, 0, 7, 8);
     PUT(0x12000002, 0x2408, (uint32_t)SCRATCH_AT + 16, 0);
-    PUT(0x14800002, 0x2430, (uint32_t)STATE_AT, 0);
+    PUT(0x14800002, 0x2430, (uint32_t)structures_at(), 0);
     PUT(0x7A000004, 0x00004010, (uint32_t)SCRATCH_AT + 24, 0, 1, 0);
     PUT(0);
 }
 
 static void make_mixed(void)
 {
-    while (batch_len + 128 < LIMIT) put_frame();
-    while (batch_len < LIMIT - 1) PUT(0);
+    while (batch_len + 128 < limit) put_frame();
+    while (batch_len < limit - 1) PUT(0);
     put_end();
 }
 
 static void make_noops(void)
 {
-    while (batch_len < LIMIT - 1) PUT(0);
+    while (batch_len < limit - 1) PUT(0);
     put_end();
 }
 
 static void make_elements(void)
 {
-    while (batch_len + 69 < LIMIT) put_elements(34);
+    while (batch_len + 69 < limit) put_elements(34);
     put_end();
 }
 
 static void make_buffers(void)
 {
-    while (batch_len + 133 < LIMIT) put_buffers(33);
+    while (batch_len + 133 < limit) put_buffers(33);
     put_end();
 }
 
 static void make_registers(void)
 {
-    while (batch_len + 129 < LIMIT) put_registers(64);
+    while (batch_len + 129 < limit) put_registers(64);
     put_end();
 }
 
 /* Every known topology in turn, the low codes and the high ones. */
 static void make_topologies(void)
 {
-    for (uint32_t code = 1; batch_len + 2 < LIMIT; code = code % 0x3F + 1)
+    for (uint32_t code = 1; batch_len + 2 < limit; code = code % 0x3F + 1)
         if (code <= 0x14 || code == 0x16 || code >= 0x20) PUT(0x784B0000, code);
     put_end();
 }
@@ -132,16 +139,35 @@ static void make_small(void)
 /* A store and a jump back to it, until the budget is spent. */
 static void make_loop(void)
 {
-    PUT(0, 0x10000002, (uint32_t)SCRATCH_AT + 4, 0, 7, 0x18800101, (uint32_t)BATCH_AT, 0);
+    PUT(0, 0x10000002, (uint32_t)SCRATCH_AT + 4, 0, 7, 0x18800101, (uint32_t)(BATCH_AT + 4 * batch_len), 0);
 }
 
 static const struct {
     const char *name;
     void (*make)(void);
+    int far; /* in windows of 65,536 dwords */
 } captures[] = {
-    {"mixed rows", make_mixed},      {"no-ops", make_noops}, {"vertex elements", make_elements}, {"vertex buffers", make_buffers},
-    {"register pairs", make_registers}, {"topologies", make_topologies}, {"small", make_small},  {"loop", make_loop},
+    {"mixed rows", make_mixed, 0},         {"mixed rows, far", make_mixed, 1},         {"no-ops", make_noops, 0},
+    {"no-ops, far", make_noops, 1},        {"vertex elements", make_elements, 0},      {"vertex elements, far", make_elements, 1},
+    {"vertex buffers", make_buffers, 0},   {"vertex buffers, far", make_buffers, 1},   {"register pairs", make_registers, 0},
+    {"register pairs, far", make_registers, 1}, {"topologies", make_topologies, 0},    {"topologies, far", make_topologies, 1},
+    {"small", make_small, 0},              {"loop", make_loop, 0},                     {"loop, far", make_loop, 1},
 };
+
+/* Far, the batch has a jump to what is made, and behind that nothing but no-ops, which are not run. */
+static void make_capture(uint32_t which)
+{
+    size_t span = room < FAR_LIMIT - 3 ? room : FAR_LIMIT - 3;
+    int far = captures[which].far;
+    batch_len = 0, limit = far ? FAR_LIMIT : LIMIT, state_len = far ? FAR_LIMIT : STATE_LEN;
+    records_len = 2 * (room + (size_t)far); /* the jump has a record too */
+    if (far) {
+        PUT(0x18800101, (uint32_t)(BATCH_AT + 4 * (FAR_LIMIT - span)), 0);
+        while (batch_len < FAR_LIMIT - span) PUT(0);
+    }
+    captures[which].make();
+    if (far) while (batch_len < FAR_LIMIT) PUT(0);
+}
 
 /* ---- Calls ---- */
 
@@ -181,7 +207,7 @@ static volatile uint32_t sink;
 
 static struct lungevati_answer ask(check_call *check)
 {
-    return check(batch, batch_len, BATCH_AT, state, STATE_LEN, STATE_AT, SCRATCH_AT, SCRATCH_LEN, records, room);
+    return check(batch, batch_len, BATCH_AT, state, state_len, STATE_AT, SCRATCH_AT, SCRATCH_LEN, records, records_len);
 }
 
 /* The processor, or the emulator, raises a signal after each instruction while the trap flag is set. */
@@ -244,7 +270,7 @@ static double time_ratio(check_call *check, check_call *beside, uint64_t rounds,
 static uint64_t dwords_of(uint32_t commands)
 {
     uint64_t dwords = 0;
-    for (uint32_t i = 0; i < commands; i++) dwords += records[i] >> 16 & 0xFF;
+    for (uint32_t i = 0; i < commands; i++) dwords += lungevati_record_length(records + 2 * i);
     return dwords;
 }
 
@@ -265,9 +291,9 @@ struct counts {
 
 static void print_head(uint64_t rounds)
 {
-    printf("%42s |            instructions a call            |         a command          |         a dword%s\n", "",
+    printf("%46s |            instructions a call            |         a command          |         a dword%s\n", "",
            rounds ? "         |      least time" : "");
-    printf("%-8s %-16s commands  dwords |    proved         C  ratio      fast  ratio |   proved        C     fast |  proved       C    fast%s\n",
+    printf("%-8s %-20s commands  dwords |    proved         C  ratio      fast  ratio |   proved        C     fast |  proved       C    fast%s\n",
            "engine", "capture", rounds ? " | to C  to fast  proved ns" : "");
 }
 
@@ -282,7 +308,7 @@ static void measure(const struct engine *engine, check_call *beside, check_call 
 {
     double p = (double)instructions(engine->check), c = in_c.c, f = in_c.fast;
     double n = (double)w.commands, d = (double)w.dwords;
-    printf("%-8s %-16s %8.0f %7.0f | %9.0f %9.0f %6.3f %9.0f %6.3f | %8.2f %8.2f %8.2f | %7.2f %7.2f %7.2f", engine->name, w.name, n, d, p, c,
+    printf("%-8s %-20s %8.0f %7.0f | %9.0f %9.0f %6.3f %9.0f %6.3f | %8.2f %8.2f %8.2f | %7.2f %7.2f %7.2f", engine->name, w.name, n, d, p, c,
            p / c, f, p / f, p / n, c / n, f / n, p / d, c / d, f / d);
     if (rounds) {
         double proved_time, to_c = time_ratio(engine->check, beside, rounds, &proved_time);
@@ -328,8 +354,7 @@ int main(int n, char **v)
     signal(SIGTRAP, step);
     print_head(rounds);
     for (uint32_t i = 0; i < sizeof captures / sizeof captures[0]; i++) {
-        batch_len = 0;
-        captures[i].make();
+        make_capture(i);
         if (!measure_engines(captures[i].name, rounds)) return 1;
     }
     return !measure_reader(rounds);

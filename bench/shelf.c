@@ -14,7 +14,7 @@ int close(int);
 enum { MOST_BYTES = 32809, LIMIT = 4096 };
 
 static uint8_t bytes[MOST_BYTES];
-static uint32_t batch[LIMIT], state[LIMIT], records[LIMIT];
+static uint32_t batch[LIMIT], state[LIMIT], records[2 * LIMIT];
 
 static size_t read_file(const char *name)
 {
@@ -33,7 +33,7 @@ static struct lungevati_answer judged(const char *name, check_call *check)
     size_t n = read_file(name);
     struct lungevati_contents c = other_read(bytes, n, batch, LIMIT, state, LIMIT);
     if (c.reason) return (struct lungevati_answer){c.reason, 0, 0, 0};
-    return check(batch, c.batch_count, c.batch_at, state, c.state_count, c.state_at, c.scratch_at, c.scratch_len, records, LIMIT);
+    return check(batch, c.batch_count, c.batch_at, state, c.state_count, c.state_at, c.scratch_at, c.scratch_len, records, 2 * LIMIT);
 }
 
 static void print(const char *name)
@@ -41,8 +41,8 @@ static void print(const char *name)
     struct lungevati_answer a = judged(name, other_check_no_base);
     printf("reason %u window %u index %u commands %u\n", a.reason, a.window, a.index, a.count);
     for (uint32_t i = 0; i < a.count; i++) {
-        uint32_t r = records[i];
-        printf("%u %u %u %u\n", r & 0xFFF, r >> 12 & 1, r >> 24, r >> 16 & 0xFF);
+        const uint32_t *r = records + 2 * i;
+        printf("%u %u %u %u\n", lungevati_record_index(r), lungevati_record_level(r), lungevati_record_row(r), lungevati_record_length(r));
     }
 }
 

@@ -19,7 +19,10 @@ enum { /* the table's rows */
     VERTEX_BUFFERS, VERTEX_ELEMENTS, INDEX_BUFFER, TOPOLOGY, VIEWPORT, COLOUR_CALC, PRIMITIVE, BLEND, NO_ROW
 };
 
-enum { WINDOW_LIMIT = 4096, BUDGET = 65536, TRAILER = 40, FILE_LIMIT = TRAILER + 4 * 2 * WINDOW_LIMIT };
+/* The dwords of a window: lent to a check, and in a capture file, which has kept its limit. */
+enum { WINDOW_LIMIT = 65536, FILE_WINDOW_LIMIT = 4096 };
+enum { BUDGET = 65536, TRAILER = 40, FILE_LIMIT = TRAILER + 4 * 2 * FILE_WINDOW_LIMIT };
+enum { RECORD = 2, LEVEL_1 = 1 << 16 }; /* words of a record, and the level in the first of them */
 
 static const uint64_t TOP = (uint64_t)1 << 48;
 static const uint64_t NEVER_SET = 1; /* no dynamic base: a base has its low twelve bits zero */
@@ -36,14 +39,14 @@ struct windows {
 
 /*
  * What is found of a command, in one number: a good one's row and length, as its record has them, with bit 31 set; or a fault,
- * reason << 16 | window << 13 | index, an index being at most 4,096.
+ * reason << 18 | window << 17 | index, an index being at most 65,536.
  */
 typedef uint32_t verdict;
-enum { IN_STATE = 1 << 13 };
+enum { IN_STATE = 1 << 17 };
 static const verdict GOOD = 0x80000000;
 
 static inline verdict good(uint32_t row, uint32_t length) { return GOOD | row << 24 | length << 16; }
-static inline verdict fault(uint32_t reason, uint64_t place) { return reason << 16 | (uint32_t)place; }
+static inline verdict fault(uint32_t reason, uint64_t place) { return reason << 18 | (uint32_t)place; }
 static inline int is_fault(verdict v) { return v < GOOD; }
 static inline verdict least(verdict a, verdict b) { return a < b ? a : b; }
 
@@ -504,16 +507,20 @@ static APART verdict blend(const struct windows *w, uint64_t base, const uint32_
 
 static inline struct lungevati_answer answer(verdict fault_or_0, uint64_t count)
 {
-    return (struct lungevati_answer){fault_or_0 >> 16, (fault_or_0 & IN_STATE) != 0, fault_or_0 & 0x1FFF, (uint32_t)count};
+    return (struct lungevati_answer){fault_or_0 >> 18, (fault_or_0 & IN_STATE) != 0, fault_or_0 & 0x1FFFF, (uint32_t)count};
 }
 
-/* Records a good command if there is room. `place` is the lower half of its record; a good verdict has the upper. */
+/* Records a good command if there is room. `place` is the first word of its record; a good verdict has the second. */
 static inline int recorded(verdict v, uint32_t place, uint32_t **out, const uint32_t *full)
 {
     if (is_fault(v) || *out == full) return 0;
-    *(*out)++ = (v ^ GOOD) | place;
+    (*out)[0] = place;
+    (*out)[1] = v ^ GOOD;
+    *out += RECORD;
     return 1;
 }
+
+static inline uint64_t recorded_so_far(const uint32_t *records, const uint32_t *out) { return (uint64_t)(out - records) / RECORD; }
 
 /*
  * Why a command was not recorded. The budget goes first: once it is spent, it does not matter what else is wrong with the
@@ -521,7 +528,7 @@ static inline int recorded(verdict v, uint32_t place, uint32_t **out, const uint
  */
 static APART struct lungevati_answer refused(verdict v, uint64_t at, const uint32_t *records, const uint32_t *out)
 {
-    uint64_t count = (uint64_t)(out - records);
+    uint64_t count = recorded_so_far(records, out);
     if (count == BUDGET) return answer(fault(ENDLESS, at), count);
     return answer(is_fault(v) ? v : fault(FULL, at), count);
 }
@@ -532,7 +539,7 @@ static APART struct lungevati_answer finish(uint32_t header, uint64_t at, uint32
 {
     verdict v = single(BATCH_END, header ^ 0x05000000, at);
     if (!recorded(v, (uint32_t)at, &out, full)) return refused(v, at, records, out);
-    return answer(0, (uint64_t)(out - records));
+    return answer(0, recorded_so_far(records, out));
 }
 
 /* The rows that do nothing but go on by their length. */
@@ -560,9 +567,9 @@ static inline verdict plain_row(uint32_t row, const struct windows *w, uint64_t 
 
 static struct lungevati_answer walk(const struct windows *w, uint64_t base, uint32_t *records, size_t room)
 {
-    uint32_t *out = records, *full = records + (room < BUDGET ? room : BUDGET);
+    uint32_t *out = records, *full = records + RECORD * (room / RECORD < BUDGET ? room / RECORD : BUDGET);
     uint64_t at = 0, kept = 0, batch_count = (uint64_t)(w->batch_end - w->batch);
-    uint32_t level = 0; /* in bit 12, as in a record */
+    uint32_t level = 0; /* as a record has it */
 
     for (;;) {
         if (at == batch_count) return refused(fault(RUN_OUT, at), at, records, out);
@@ -579,7 +586,7 @@ static struct lungevati_answer walk(const struct windows *w, uint64_t base, uint
         case BATCH_START:
             v = batch_start(w, level, cmd);
             if (!recorded(v, level | (uint32_t)at, &out, full)) return refused(v, at, records, out);
-            if (header & 0x00400000) kept = at + 3, level = 1 << 12;
+            if (header & 0x00400000) kept = at + 3, level = LEVEL_1;
             at = (cmd[1] - (uint32_t)w->batch_at) / 4; /* it lies in the batch, so that the low dwords say where */
             continue;
         case BASE_ADDRESS:
@@ -615,9 +622,9 @@ static uint32_t unsound(const struct windows *w)
     return 0;
 }
 
-static int counts_wrong(uint64_t batch, uint64_t state)
+static int counts_wrong(uint64_t batch, uint64_t state, uint64_t limit)
 {
-    return batch == 0 || batch > WINDOW_LIMIT || state > WINDOW_LIMIT;
+    return batch == 0 || batch > limit || state > limit;
 }
 
 /* The walk starts with the dynamic base that is given. */
@@ -626,7 +633,7 @@ static inline struct lungevati_answer check(const uint32_t *batch, size_t batch_
                                             uint64_t scratch_at, uint32_t scratch_len,
                                             uint32_t *records, size_t records_len, uint64_t base)
 {
-    if (counts_wrong(batch_len, state_len)) return answer(fault(COUNTS, 0), 0);
+    if (counts_wrong(batch_len, state_len, WINDOW_LIMIT)) return answer(fault(COUNTS, 0), 0);
     struct windows w = {batch, batch + batch_len, state, batch_at, 4 * batch_len,
                         state_at, 4 * state_len, scratch_at, scratch_len};
     uint32_t reason = unsound(&w);
@@ -669,7 +676,7 @@ static uint32_t unreadable(const struct lungevati_contents *c, uint32_t distance
                            size_t state_len)
 {
     if (distance != file_len || distance != TRAILER + 4 * ((uint64_t)c->batch_count + c->state_count)) return FILE_SHAPE;
-    if (counts_wrong(c->batch_count, c->state_count)) return COUNTS;
+    if (counts_wrong(c->batch_count, c->state_count, FILE_WINDOW_LIMIT)) return COUNTS;
     if (batch_len < c->batch_count || state_len < c->state_count) return TOO_SHORT;
     return 0;
 }

@@ -1,4 +1,4 @@
-/* The second opinion: two checkers, a reader of capture files and a writer of commands in plain C, with the calls of lungevati.h. */
+/* The second opinion: two checkers, a reader of capture files, a writer of commands and what turns old listings, in plain C, with the calls of lungevati.h. */
 #ifndef CHECKER_H
 #define CHECKER_H
 
@@ -31,5 +31,8 @@ struct lungevati_contents other_read(const uint8_t *file, size_t file_len,
 /* The writer of commands, in a file of its own (writer.c). */
 struct lungevati_answer other_write(uint32_t row, uint32_t free_bits, const uint32_t *dwords, size_t dwords_len,
                                     uint32_t *batch, size_t batch_len, size_t first);
+
+/* What turns a listing of old records, in a file of its own (turn.c). */
+struct lungevati_long_answer other_turn(const uint32_t *old_words, size_t old_len, uint32_t *new_words, size_t new_len);
 
 #endif

@@ -19,7 +19,7 @@ enum { /* the table's rows */
     VERTEX_BUFFERS, VERTEX_ELEMENTS, INDEX_BUFFER, TOPOLOGY, VIEWPORT, COLOUR_CALC, PRIMITIVE, BLEND, ROWS
 };
 
-enum { LIMIT = 4096, BUDGET = 65536, LEVEL_1 = 1 << 12 };
+enum { LIMIT = 65536, BUDGET = 65536, LEVEL_1 = 1 << 16, RECORD = 2 };
 
 static const uint64_t TOP = (uint64_t)1 << 48;
 static const uint64_t NEVER_SET = (uint64_t)1 << 63; /* no base: no window reaches so far, and no sum with a pointer wraps */
@@ -99,12 +99,12 @@ QUICK int register_known(uint32_t offset)
 
 /* ---- The careful look ---- */
 
-/* A good command's row and length, as its record has them, with bit 31 set; or a fault, reason << 16 | window << 13 | index. */
+/* A good command's row and length, as its record has them, with bit 31 set; or a fault, reason << 18 | window << 17 | index. */
 typedef uint32_t verdict;
-enum { IN_STATE = 1 << 13 };
+enum { IN_STATE = 1 << 17 };
 static const verdict GOOD = 0x80000000;
 
-static verdict fault(uint32_t reason, uint64_t place) { return reason << 16 | (uint32_t)place; }
+static verdict fault(uint32_t reason, uint64_t place) { return reason << 18 | (uint32_t)place; }
 
 /* A row: what its header is known by and leaves free, its field from least to most in steps, a group's masks and their number. */
 static const struct row {
@@ -496,7 +496,7 @@ QUICK int quick_blend(const struct windows *w, uint64_t base, const uint32_t *cm
 
 static struct lungevati_answer answer(verdict fault_or_0, uint64_t count)
 {
-    return (struct lungevati_answer){fault_or_0 >> 16, (fault_or_0 & IN_STATE) != 0, fault_or_0 & 0x1FFF, (uint32_t)count};
+    return (struct lungevati_answer){fault_or_0 >> 18, (fault_or_0 & IN_STATE) != 0, fault_or_0 & 0x1FFFF, (uint32_t)count};
 }
 
 /* The last word on a command without a record: the budget goes first, the room last. */
@@ -506,20 +506,23 @@ APART struct lungevati_answer refused(verdict v, uint64_t at, uint64_t count)
     return answer(v < GOOD ? v : fault(FULL, at), count);
 }
 
+QUICK void record(uint32_t *out, uint32_t first, uint32_t second) { out[0] = first, out[1] = second; }
+
 /*
- * From a second no-op in a row on, sixteen at a time while there are so many, and room for them. `record` is the first one's; gives
- * back how many were recorded.
+ * From a second no-op in a row on, sixteen at a time while there are so many, and room for them. `at` is where the first one stands, with
+ * its level; gives back how many were recorded.
  */
-APART uint64_t noops(const uint32_t *cmd, uint32_t *out, uint64_t most, uint32_t record)
+APART uint64_t noops(const uint32_t *cmd, uint32_t *out, uint64_t most, uint32_t at)
 {
+    const uint32_t second = NOOP << 24 | 1 << 16;
     uint64_t n = 0;
-    four a = (four){record, record + 1, record + 2, record + 3}, b = a + same(4), c = a + same(8), d = a + same(12);
-    for (; n + 16 <= most; n += 16) {
+    four pair = (four){at, second, at + 1, second};
+    const four two = {2, 0, 2, 0};
+    for (; n + 16 <= most; n += 16, out += 16 * RECORD) {
         if (!all_zero((load(cmd + n) | load(cmd + n + 4) | load(cmd + n + 8) | load(cmd + n + 12)) >> 22)) break;
-        store(out + n, a), store(out + n + 4, b), store(out + n + 8, c), store(out + n + 12, d);
-        a += same(16), b += same(16), c += same(16), d += same(16);
+        for (uint32_t i = 0; i < 16 * RECORD; i += 4, pair += two) store(out + i, pair);
     }
-    for (; n < most && cmd[n] >> 22 == 0; n++) out[n] = record + (uint32_t)n;
+    for (; n < most && cmd[n] >> 22 == 0; n++, out += RECORD) record(out, at + (uint32_t)n, second);
     return n;
 }
 
@@ -533,7 +536,7 @@ APART uint64_t noops(const uint32_t *cmd, uint32_t *out, uint64_t most, uint32_t
 #define NEXT if (RARELY(out == full)) goto look; slot = (uint64_t)BYTE(3) + BYTE(2); __asm__("" : "+r"(slot)); goto *rows_at[slot]
 #define NEED(condition) if (RARELY(!(condition))) goto other
 /* A row whose command has this header and length and is good. Right behind it the batch must go on: or the careful look sees to it. */
-#define TAKE(row, length) *out++ = (uint32_t)at + ((row) << 24 | (length) << 16); at += (length); NEXT
+#define TAKE(row, length) record(out, (uint32_t)at, (row) << 24 | (length) << 16); out += RECORD; at += (length); NEXT
 #define ROW(header, row, length, condition) \
     NEED(DWORD(0) == (header)); NEED(at + (length) < end); NEED(condition); TAKE(row, length)
 /* The same in groups: the field is a multiple of `group`, less 1, and at most `most`. */
@@ -545,7 +548,7 @@ APART uint64_t noops(const uint32_t *cmd, uint32_t *out, uint64_t most, uint32_t
 #pragma clang diagnostic ignored "-Winitializer-overrides" /* the table below is filled first, and then has its rows */
 
 /*
- * The level is part of the position, as it is in a record: at level 1 both `at` and `end` are 4,096 more, and `from` so many dwords
+ * The level is part of the position, as it is in a record's first word: at level 1 both `at` and `end` are 65,536 more, and `from` so many dwords
  * less than the batch's first. Long, since every row is a place to jump to.
  */
 static struct lungevati_answer walk(const struct windows *w, uint64_t base, uint32_t *records, size_t room)
@@ -559,26 +562,28 @@ static struct lungevati_answer walk(const struct windows *w, uint64_t base, uint
         [HASH(0x784B0000)] = &&topology, [HASH(0x78230000)] = &&viewport, [HASH(0x780E0000)] = &&colour_calc,
         [HASH(0x7B000000)] = &&primitive, [HASH(0x78240000)] = &&blend,
     };
-    uint32_t *out = records, *full = records + (room < BUDGET ? room : BUDGET);
+    uint32_t *out = records, *full = records + RECORD * (room / RECORD < BUDGET ? room / RECORD : BUDGET);
     uint64_t from = (uint64_t)w->words[0], at = 0, end = w->batch_count, kept = 0, n, slot;
     uint32_t field;
     NEXT;
 
 noop: /* the sum is 0, so bits 31:16 are */
     NEED(at + 1 < end);
-    *out++ = (uint32_t)at++ + (1 << 16);
+    record(out, (uint32_t)at++, NOOP << 24 | 1 << 16);
+    out += RECORD;
     if (DWORD(0) >> 22 == 0) goto more_noops;
     NEXT;
 more_noops:
-    n = end - at < (uint64_t)(full - out) ? end - at : (uint64_t)(full - out);
-    n = noops(COMMAND, out, n, (uint32_t)at + (1 << 16));
-    at += n, out += n;
+    n = (uint64_t)(full - out) / RECORD;
+    n = noops(COMMAND, out, end - at < n ? end - at : n, (uint32_t)at);
+    at += n, out += RECORD * n;
     if (RARELY(at == end)) goto look;
     NEXT;
 batch_end:
     NEED(DWORD(0) == 0x05000000);
-    *out++ = (uint32_t)at + (BATCH_END << 24 | 1 << 16);
-    if (end == w->batch_count) return answer(0, (uint64_t)(out - records));
+    record(out, (uint32_t)at, BATCH_END << 24 | 1 << 16);
+    out += RECORD;
+    if (end == w->batch_count) return answer(0, (uint64_t)(out - records) / RECORD);
     at = kept, from += 4 * LEVEL_1, end -= LEVEL_1;
     if (RARELY(at == end)) goto look;
     NEXT;
@@ -588,7 +593,8 @@ batch_start:
     n = turned_64(written(COMMAND + 1) - w->batch.at, 2);
     NEED(n < w->batch.fours);
 jump:
-    *out++ = (uint32_t)at + (BATCH_START << 24 | 3 << 16);
+    record(out, (uint32_t)at, BATCH_START << 24 | 3 << 16);
+    out += RECORD;
     at = n;
     NEXT;
 second_level:
@@ -597,7 +603,8 @@ second_level:
     n = turned_64(written(COMMAND + 1) - w->batch.at, 2);
     NEED(n < w->batch.fours);
 call:
-    *out++ = (uint32_t)at + (BATCH_START << 24 | 3 << 16);
+    record(out, (uint32_t)at, BATCH_START << 24 | 3 << 16);
+    out += RECORD;
     kept = at + 3, at = n + LEVEL_1, from -= 4 * LEVEL_1, end += LEVEL_1;
     NEXT;
 load_imm: GROUPS(0x11000000, LOAD_IMM, 2, 127, quick_load_imm(COMMAND, COMMAND + field + 2));
@@ -631,7 +638,7 @@ other: /* a no-op with a number of its own, or whatever the quick look does not 
 look:;
     struct place p = {at - (end - w->batch_count), base, (uint32_t)(end - w->batch_count)};
     verdict v = careful(w, &p);
-    if (v < GOOD || out == full) return refused(v, p.at, (uint64_t)(out - records));
+    if (v < GOOD || out == full) return refused(v, p.at, (uint64_t)(out - records) / RECORD);
     /*
      * What is good yet goes on by its length, but for a start in a batch that lies about 2^47, to what lies above. A base that it set, as the
      * batch's last command, nobody would ask for.
@@ -641,7 +648,8 @@ look:;
         if (DWORD(0) & 0x00400000) goto call;
         goto jump;
     }
-    *out++ = (v ^ GOOD) + (uint32_t)at;
+    record(out, (uint32_t)at, v ^ GOOD);
+    out += RECORD;
     at += v >> 16 & 0xFF;
     if (RARELY(at == end)) goto look;
     NEXT;

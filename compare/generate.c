@@ -38,11 +38,15 @@ static int aim_of(uint64_t number)
     return aims[i].aim;
 }
 
+/* One in so many captures is long: with every aim, since 128 has no divisor in common with it. */
+enum { LONG_EVERY = 101 };
+
 static void begin(struct capture *c, uint64_t seed, uint64_t number)
 {
     m.c = c;
     dice_start(&m.dice, seed, number);
     m.aim = aim_of(number);
+    m.is_long = number % LONG_EVERY == LONG_EVERY / 2;
     m.cut = m.aim == 14 || one_in(4);
     m.fixed_base = m.aim >= 14 || !one_in(3);
     m.whole = one_in(2);
@@ -74,7 +78,7 @@ static void make_aimed(void)
     }
 }
 
-/* Room for the records: as a rule near what the run needs, which the checker itself is asked for. */
+/* Room for so many records: as a rule near what the run needs, which the checker itself is asked for. */
 static size_t room(void)
 {
     static uint32_t records[RECORDS_MOST];
@@ -83,7 +87,7 @@ static size_t room(void)
                                             c->scratch_at, c->scratch_len, records, RECORDS_MOST);
     if (m.aim == 18) return below(one_in(2) ? a.count : 3);
     if (m.aim == EXACT_RUN && a.count > 2 && one_in(3)) return a.count - below(3);
-    if (a.count == BUDGET) return one_in(2) ? BUDGET + below(2) : RECORDS_MOST - below(2);
+    if (a.count == BUDGET) return one_in(2) ? BUDGET + below(2) : RECORDS_MOST / 2 - 1 - below(2);
     return one_in(3) ? a.count : one_in(2) ? a.count + 1 : a.count + below(40);
 }
 
@@ -91,7 +95,8 @@ void generate(struct capture *c, uint64_t seed, uint64_t number)
 {
     begin(c, seed, number);
     make_aimed();
-    c->records_len = room();
+    c->records_len = 2 * room();
+    c->records_len += below(2); /* an odd word is room for nothing */
 }
 
 /* ---- Files ---- */
@@ -132,8 +137,8 @@ static void bad_counts(uint32_t *batch, uint32_t *state)
 {
     switch (below(3)) {
     case 0: *batch = 0, *state = below(300); break;
-    case 1: *batch = LIMIT + 1 + below(one_in(2) ? 1 : 1000), *state = below(300); break;
-    default: *batch = below(300), *state = LIMIT + 1 + below(one_in(2) ? 1 : 1000);
+    case 1: *batch = SMALL_LIMIT + 1 + below(one_in(2) ? 1 : 1000), *state = below(300); break;
+    default: *batch = below(300), *state = SMALL_LIMIT + 1 + below(one_in(2) ? 1 : 1000);
     }
 }
 
@@ -173,8 +178,8 @@ void generate_file(struct capture_file *f, const struct capture *c, uint64_t see
     dice_start(&m.dice, ~seed, number);
     uint32_t kind = (uint32_t)(number / 3 % 16), short_of = kind == 8 || kind == 9 ? 1 + below(3) : 0;
     uint32_t batch = (uint32_t)c->batch_len, state = (uint32_t)c->state_len;
-    if (batch > LIMIT || one_in(64)) batch = LIMIT;
-    if (state > LIMIT || one_in(64)) state = LIMIT;
+    if (batch > SMALL_LIMIT || one_in(64)) batch = SMALL_LIMIT;
+    if (state > SMALL_LIMIT || one_in(64)) state = SMALL_LIMIT;
     if (kind == 6 || kind == 7) bad_counts(&batch, &state);
 
     struct trailer t = {c->batch_at, c->state_at, c->scratch_at, c->scratch_len, batch, state, 40 + 4 * (batch + state)};

@@ -5,15 +5,16 @@
 #include "../include/lungevati.h"
 
 enum {
-    LENT_MOST = 4096 + 1024,           /* dwords of a window: past the limit too */
-    RECORDS_MOST = 70000,              /* past the budget of 65,536 commands too */
+    LENT_MOST = 65536 + 1024,          /* dwords of a window: past the limit too */
+    RECORDS_MOST = 2 * 70000 + 2,      /* words: past those of 65,536 commands too */
     FILE_MOST = 40 + 4 * 2 * 4096 + 200, /* bytes: past the limit too */
-    WRITE_MOST = 65536 + 512           /* dwords behind a header: far past any row's, and past what 16 bits count */
+    WRITE_MOST = 65536 + 512,          /* dwords behind a header: far past any row's, and past what 16 bits count */
+    TURN_MOST = 65536 + 512            /* words of an old listing: past the budget, and past what 16 bits count */
 };
 
 struct capture {
     uint64_t batch_at, state_at, scratch_at;
-    size_t batch_len, state_len, records_len;
+    size_t batch_len, state_len, records_len; /* in words, also the records */
     uint32_t scratch_len;
     uint32_t batch[LENT_MOST], state[LENT_MOST];
 };

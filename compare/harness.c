@@ -1,6 +1,7 @@
 /*
- * Both engines of the proved checker, the proved writer and the fast checker in C, against the second opinion; each check with both starting bases.
- *   harness N SEED          document 01's cases and the sweeps, then N captures and files made from SEED, and commands to be written
+ * Both engines of the proved checker, the proved writer, what is proved to turn old listings, and the fast checker in C, against the second opinion; each check
+ * with both starting bases.
+ *   harness N SEED          document 01's cases and the sweeps, then N captures and files made from SEED, commands to be written, and listings to be turned
  *   harness N SEED CASE     only that one of the N, and shows it
  * Exit status 1 at the first difference, or where a number was met too rarely for the comparison to say much of it.
  */
@@ -11,18 +12,21 @@
 enum { GUARD = 16, ROWS = 18 };
 
 static uint32_t lent_batch[GUARD + LENT_MOST + GUARD], lent_state[GUARD + LENT_MOST + GUARD], lent_dwords[GUARD + WRITE_MOST + GUARD];
+static uint32_t lent_old[GUARD + TURN_MOST + GUARD];
 static uint8_t lent_file[GUARD + FILE_MOST + GUARD];
 
 /* What is lent to be written: once to each side, and as it was before. */
 struct room {
     uint32_t proved[GUARD + RECORDS_MOST + GUARD], other[GUARD + RECORDS_MOST + GUARD], before[GUARD + RECORDS_MOST + GUARD];
 };
-static struct room records, batch_room, state_room, write_room;
+static struct room records, batch_room, state_room, write_room, turn_room;
 
 static uint64_t asked; /* calls so far */
 
 struct lungevati_answer last_answers[CHOICES], last_write;
+struct lungevati_long_answer last_turn;
 const uint32_t *const last_records = records.other + GUARD, *const last_buffer = write_room.other + GUARD;
+const uint32_t *const last_turned = turn_room.other + GUARD;
 
 static const char *const words_for[NUMBERS] = {
     "accepted", "counts", "address not on a page", "window too high", "windows share a byte", "65,536 commands, no end",
@@ -91,8 +95,8 @@ static int same_room(const struct room *r, const char *name, size_t len, size_t 
 uint32_t position_after(const struct capture *c, const uint32_t *recs, uint32_t count)
 {
     uint32_t at = 0, kept = 0;
-    for (uint32_t i = 0; i < count; i++) {
-        uint32_t index = recs[i] & 0xFFF, row = recs[i] >> 24, length = recs[i] >> 16 & 0xFF;
+    for (uint32_t i = 0; i < count; i++, recs += 2) {
+        uint32_t index = lungevati_record_index(recs), row = lungevati_record_row(recs), length = lungevati_record_length(recs);
         const uint32_t *cmd = c->batch + index;
         at = index + length;
         if (row == 2 && (cmd[0] & 0x400000)) kept = at;
@@ -102,6 +106,25 @@ uint32_t position_after(const struct capture *c, const uint32_t *recs, uint32_t 
     return at;
 }
 
+/* What lies beyond windows of 4,096 dwords. */
+static void count_far(const struct capture *c, struct lungevati_answer a, const uint32_t *recs, struct far *f)
+{
+    f->odd_rooms += c->records_len % 2;
+    if (c->batch_len <= 4096 && c->state_len <= 4096) return;
+    f->captures++;
+    f->sound += a.reason == 0 || a.reason > 4;
+    f->accepted += a.reason == 0;
+    for (uint32_t i = 0; i < 3; i++) f->batch[i] += c->batch_len == 65535 + i, f->state[i] += c->state_len == 65535 + i;
+    f->refused += a.reason && a.window == 0 && a.index > 4095;
+    f->structures += a.window == 1 && a.index > 4095;
+    for (uint32_t i = 0, before = 0; i < a.count; i++, recs += 2) {
+        uint32_t index = lungevati_record_index(recs);
+        f->commands += index > 4095;
+        f->jumps += before == 2 && index > 4095;
+        before = lungevati_record_row(recs);
+    }
+}
+
 /* With no base at the start only 14 is counted by row: what else is answered then, the default answers too. */
 static void count_check(const struct capture *c, enum choice choice, const uint32_t *recs, struct tally *t)
 {
@@ -109,11 +132,12 @@ static void count_check(const struct capture *c, enum choice choice, const uint3
     uint32_t row = ROWS;
     t->checked[choice][a.reason]++;
     if (choice == NO_BASE && a.reason != 14) return;
+    if (choice == STATE_WINDOW) count_far(c, a, recs, &t->far);
     if (a.reason >= 8) row = stream_row(c->batch[position_after(c, recs, a.count)]);
     t->by_row[row][a.reason]++;
-    for (uint32_t i = 0; choice == STATE_WINDOW && i < a.count; i++) {
-        uint32_t length = recs[i] >> 16 & 0xFF;
-        row = recs[i] >> 24;
+    for (uint32_t i = 0; choice == STATE_WINDOW && i < a.count; i++, recs += 2) {
+        uint32_t length = lungevati_record_length(recs);
+        row = lungevati_record_row(recs);
         if (t->commands[row]++ == 0) t->shortest[row] = t->longest[row] = length;
         if (length < t->shortest[row]) t->shortest[row] = length;
         if (length > t->longest[row]) t->longest[row] = length;
@@ -128,6 +152,14 @@ static int stream_fault(const char *what, uint32_t step)
     return 0;
 }
 
+/* The record of the command that the streamer did last: its words, and what the header's own functions find in them. */
+static int is_record_of(const struct stream *s, const uint32_t *record)
+{
+    return record[0] == (s->at_level << 16 | s->index) && record[1] == (s->row << 24 | s->length << 16) &&
+           lungevati_record_index(record) == s->index && lungevati_record_level(record) == s->at_level &&
+           lungevati_record_row(record) == s->row && lungevati_record_length(record) == s->length;
+}
+
 /* The streamer runs as the records say, ends with the last of them, and stores nothing outside scratch at any moment. */
 static int streams(const struct capture *c, const uint32_t *recs, uint32_t count, uint64_t seed, struct tally *t)
 {
@@ -138,8 +170,7 @@ static int streams(const struct capture *c, const uint32_t *recs, uint32_t count
         stream_step(&s);
         if (s.is == STREAM_FAILED) return stream_fault("the streamer failed", i);
         if (s.is == STREAM_FULL) return stream_fault("the streamer's own memory is full", i);
-        if (recs[i] != (s.row << 24 | s.length << 16 | s.at_level << 12 | s.index))
-            return stream_fault("the streamer did another command than the record's", i);
+        if (!is_record_of(&s, recs + 2 * i)) return stream_fault("the streamer did another command than the record's", i);
         if (s.stores[STREAM_BATCH] || s.stores[STREAM_STATE]) return stream_fault("a store outside scratch", i);
         if ((s.is == STREAM_ENDED) != (i + 1 == count)) return stream_fault("the end at another command", i);
     }
@@ -193,7 +224,7 @@ static int same_choice(const struct capture *c, enum choice choice)
         lend_again(records.proved, &records, c->records_len);
         struct lungevati_answer p = ask(engines[e].checks[choice], c, records.proved);
         if (!same_answer(choice_names[choice], engines[e].name, p, o)) return 0;
-        if (!same_room(&records, engines[e].records, c->records_len, 0, o.count)) return 0;
+        if (!same_room(&records, engines[e].records, c->records_len, 0, 2 * (size_t)o.count)) return 0;
     }
     if (unchanged(lent_batch, c->batch, c->batch_len) && unchanged(lent_state, c->state, c->state_len)) return 1;
     return printf("DIFFERENT: a lent window was written\n"), 0;
@@ -218,9 +249,9 @@ int same_check(const struct capture *c, uint64_t seed, struct tally *t)
     uint64_t stream_seed = dice_roll(&d);
     for (enum choice choice = NO_BASE; choice < CHOICES; choice++) {
         if (!same_choice(c, choice)) return 0;
-        count_check(c, choice, last_records, t);
         struct lungevati_answer a = last_answers[choice];
         if (a.reason == 0 && !streams(c, last_records, a.count, stream_seed + choice, t)) return 0;
+        count_check(c, choice, last_records, t); /* last, since it takes the records to be good */
     }
     return choices_fit(last_answers[NO_BASE], last_answers[STATE_WINDOW]);
 }
@@ -291,6 +322,29 @@ int same_write(const struct writing *w, uint64_t seed, struct tally *t)
     return same_written(w, p, o);
 }
 
+/* What both leave is the same: the records that are counted, from word 0 on, and nothing else. */
+static int same_turned(const struct listing *l, struct lungevati_long_answer p, struct lungevati_long_answer o)
+{
+    if (p.reason != o.reason || p.window != o.window || p.index != o.index || p.count != o.count) {
+        printf("DIFFERENT: turn: proved reason %u window %u index %lu count %lu, other reason %u window %u index %lu count %lu\n", p.reason, p.window,
+               (unsigned long)p.index, (unsigned long)p.count, o.reason, o.window, (unsigned long)o.index, (unsigned long)o.count);
+        return 0;
+    }
+    if (!same_room(&turn_room, "the buffer that is turned into", l->new_len, 0, 2 * (size_t)o.count)) return 0;
+    return unchanged(lent_old, l->old_words, l->old_len) || (printf("DIFFERENT: the old listing was written\n"), 0);
+}
+
+int same_turn(const struct listing *l, uint64_t seed, struct tally *t)
+{
+    asked++;
+    for (size_t i = 0; i < l->old_len; i++) lent_old[GUARD + i] = l->old_words[i]; /* about them stand those of earlier listings */
+    lend_steps(&turn_room, l->new_len, seed * 0xD1342543DE82EF95 >> 32);
+    struct lungevati_long_answer p = lungevati_turn(lent_old + GUARD, l->old_len, turn_room.proved + GUARD, l->new_len);
+    struct lungevati_long_answer o = last_turn = other_turn(lent_old + GUARD, l->old_len, turn_room.other + GUARD, l->new_len);
+    t->turned[o.reason]++;
+    return same_turned(l, p, o);
+}
+
 /* ---- Many ---- */
 
 static int same_case(uint64_t seed, uint64_t number, struct capture *c, struct tally *t)
@@ -298,13 +352,13 @@ static int same_case(uint64_t seed, uint64_t number, struct capture *c, struct t
     static struct capture_file f;
     generate(c, seed, number);
     generate_file(&f, c, seed, number);
-    return same_check(c, seed + number, t) && write_back(c, seed + number, t) && same_read(&f, seed + number, t) &&
-           random_writes(seed, number, t);
+    return same_check(c, seed + number, t) && write_back(c, seed + number, t) && turn_back(seed + number, t) &&
+           same_read(&f, seed + number, t) && random_writes(seed, number, t) && random_turns(seed, number, t);
 }
 
 static void show(const struct capture *c)
 {
-    printf("batch %lu at %lx, state %lu at %lx, scratch %u bytes at %lx, room for %lu records\n", (unsigned long)c->batch_len,
+    printf("batch %lu at %lx, state %lu at %lx, scratch %u bytes at %lx, %lu record words lent\n", (unsigned long)c->batch_len,
            (unsigned long)c->batch_at, (unsigned long)c->state_len, (unsigned long)c->state_at, c->scratch_len,
            (unsigned long)c->scratch_at, (unsigned long)c->records_len);
     for (size_t i = 0; i < c->batch_len; i++) printf("%s%08x", i % 8 ? " " : i ? "\n" : "batch:\n", c->batch[i]);
@@ -318,10 +372,10 @@ static void show(const struct capture *c)
 
 static void print_numbers(const struct tally *t)
 {
-    printf("\n  no.     check   no base      read     write\n");
+    printf("\n  no.     check   no base      read     write      turn\n");
     for (uint32_t i = 0; i < NUMBERS; i++)
-        printf("%5u %9lu %9lu %9lu %9lu  %s\n", i, (unsigned long)t->checked[STATE_WINDOW][i], (unsigned long)t->checked[NO_BASE][i],
-               (unsigned long)t->read[i], (unsigned long)t->written[i], words_for[i]);
+        printf("%5u %9lu %9lu %9lu %9lu %9lu  %s\n", i, (unsigned long)t->checked[STATE_WINDOW][i], (unsigned long)t->checked[NO_BASE][i],
+               (unsigned long)t->read[i], (unsigned long)t->written[i], (unsigned long)t->turned[i], words_for[i]);
 }
 
 static void print_rows(const struct tally *t)
@@ -337,6 +391,15 @@ static void print_rows(const struct tally *t)
         printf("\n");
     }
     printf("  * with no base; all else by the default\n");
+}
+
+static void print_far(const struct far *f)
+{
+    printf("\n%lu captures have a window above 4,096 dwords: %lu with windows that are sound, %lu accepted; batches of 65,535, 65,536 and 65,537 dwords: %lu, %lu, %lu; states: "
+           "%lu, %lu, %lu.\n", (unsigned long)f->captures, (unsigned long)f->sound, (unsigned long)f->accepted, (unsigned long)f->batch[0], (unsigned long)f->batch[1],
+           (unsigned long)f->batch[2], (unsigned long)f->state[0], (unsigned long)f->state[1], (unsigned long)f->state[2]);
+    printf("Above dword 4,095: %lu commands, %lu of them jumped to, %lu refusals in the batch, %lu in the state. Rooms of an odd number of words: %lu.\n",
+           (unsigned long)f->commands, (unsigned long)f->jumps, (unsigned long)f->refused, (unsigned long)f->structures, (unsigned long)f->odd_rooms);
 }
 
 static int often(const char *call, uint32_t number, uint64_t times, uint64_t least)
@@ -355,7 +418,9 @@ static int often_enough(const struct tally *t, uint64_t least)
         if (i <= 18) enough &= often("check with no base", i, t->checked[NO_BASE][i], least);
         if (i <= 1 || (i >= 19 && i <= 21)) enough &= often("read", i, t->read[i], least);
         if (i == 0 || i == 7 || i == 8 || i == 10 || i == 22) enough &= often("write", i, t->written[i], least);
+        if (i == 0 || i == 10 || i == 18) enough &= often("turn", i, t->turned[i], least);
     }
+    if (t->far.sound < least) enough = printf("TOO FEW: only %lu captures have long windows that are sound\n", (unsigned long)t->far.sound) < 0;
     return enough;
 }
 
@@ -386,11 +451,18 @@ static void watch(void)
     for (int i = 0; i < 6; i++) signal(signals[i], stopped);
 }
 
-static uint64_t writes(const struct tally *t)
+static uint64_t total(const uint64_t *by_number)
 {
     uint64_t sum = 0;
-    for (uint32_t i = 0; i < NUMBERS; i++) sum += t->written[i];
+    for (uint32_t i = 0; i < NUMBERS; i++) sum += by_number[i];
     return sum;
+}
+
+static void print_all(const struct tally *t)
+{
+    print_numbers(t);
+    print_rows(t);
+    print_far(&t->far);
 }
 
 static int many(uint64_t count, uint64_t seed)
@@ -402,8 +474,9 @@ static int many(uint64_t count, uint64_t seed)
     alarm(SECONDS);
     sweeping = 1;
     if (!sweep(&swept)) return say_case(), 1;
-    printf("document 01's cases have their answers; %lu small captures, with both choices of a base, and files, and %lu commands to be written, tried one by one, agree\n",
-           (unsigned long)(asked - writes(&swept)), (unsigned long)writes(&swept));
+    uint64_t writes = total(swept.written), turns = total(swept.turned);
+    printf("document 01's cases have their answers; %lu captures, with both choices of a base, and files, %lu commands to be written, and %lu listings to be turned, tried one by one, agree\n",
+           (unsigned long)(asked - writes - turns), (unsigned long)writes, (unsigned long)turns);
     sweeping = 0;
     for (at_case = 0; at_case < count; at_case++) {
         alarm(SECONDS);
@@ -411,14 +484,15 @@ static int many(uint64_t count, uint64_t seed)
         say_case();
         return 1;
     }
-    print_numbers(&t);
-    print_rows(&t);
+    print_all(&t);
     printf("\n%lu captures from seed %lu, by the default base and with none: proved, C and the fast C agree. ", (unsigned long)count,
            (unsigned long)seed);
     printf("%lu accepted runs streamed, %lu commands, %lu words stored.\n", (unsigned long)t.streamed, (unsigned long)t.steps,
            (unsigned long)t.stores);
     printf("%lu commands to be written: proved and C agree, and what was written is read so. %lu of them are commands of the captures, written back.\n",
-           (unsigned long)writes(&t), (unsigned long)t.back);
+           (unsigned long)total(t.written), (unsigned long)t.back);
+    printf("%lu listings to be turned: proved and C agree. %lu of them are those of captures in the old form, and become their records.\n",
+           (unsigned long)total(t.turned), (unsigned long)t.relisted);
     return !often_enough(&t, count / 200);
 }
 

@@ -41,25 +41,27 @@ kit_archives() {
 }
 
 # kit_as ENGINE OBJECT SOURCE [FLAG...]: a checker in C under other names, in the place of the engine plain or table, or of the fast checker; or the
-# writer in C in the place of the proved writer
+# writer in C in the place of the proved writer, or the turning of listings in C in the place of the proved one
 kit_as() {
     case $1 in
         plain) kit_names='-Dother_check=lungevati_check -Dother_check_no_base=lungevati_check_no_base -Dother_read=lungevati_read' ;;
         table) kit_names='-Dother_check=lungevati_check_table -Dother_check_no_base=lungevati_check_table_no_base -Dother_read=unused_read' ;;
         fast) kit_names='-Dother_check=fast_check -Dother_check_no_base=fast_check_no_base -Dother_read=unused_fast_read' ;;
         writer) kit_names='-Dother_write=lungevati_write' ;;
+        turn) kit_names='-Dother_turn=lungevati_turn' ;;
     esac
     shift
     # shellcheck disable=SC2086 # a list of names
     kit_compile "$@" $kit_names
 }
 
-# kit_self FOLDER [FLAG...]: the second opinion itself in the place of both engines and of the proved writer
+# kit_self FOLDER [FLAG...]: the second opinion itself in the place of all that is proved
 kit_self() {
     kit_folder=$1
     shift
     kit_as plain "$kit_folder/self.o" "${top:?}/compare/checker.c" "$@" || return
     kit_as table "$kit_folder/self_table.o" "$top/compare/checker.c" "$@" || return
     kit_as writer "$kit_folder/self_writer.o" "$top/compare/writer.c" "$@" || return
-    kit_calls="$kit_folder/self.o $kit_folder/self_table.o $kit_folder/self_writer.o"
+    kit_as turn "$kit_folder/self_turn.o" "$top/compare/turn.c" "$@" || return
+    kit_calls="$kit_folder/self.o $kit_folder/self_table.o $kit_folder/self_writer.o $kit_folder/self_turn.o"
 }

@@ -12,7 +12,9 @@ enum { /* the table's rows */
     VERTEX_BUFFERS, VERTEX_ELEMENTS, INDEX_BUFFER, TOPOLOGY, VIEWPORT, COLOUR_CALC, PRIMITIVE, BLEND, ROWS
 };
 
-enum { PAGE = 4096, LIMIT = 4096, BUDGET = 65536, BLOCKS = 12, COMMANDS = 4096 };
+/* The dwords of a window: at most, and in all captures but the long ones, as in a capture file. */
+enum { LIMIT = 65536, SMALL_LIMIT = 4096 };
+enum { PAGE = 4096, BUDGET = 65536, BLOCKS = 12, COMMANDS = LIMIT };
 
 /* 2^48, the end of all windows, and 2^47, from which on an address that is used has its upper bits set. */
 #define TOP ((uint64_t)1 << 48)
@@ -31,6 +33,7 @@ struct maker {
     struct capture *c;
     struct dice dice;
     int aim;
+    int is_long;        /* its windows may have 65,536 dwords */
     int cut;            /* as from behind the driver's STATE_BASE_ADDRESS: the base is the state window's address from the start, which is 14 with none */
     int fixed_base;     /* one dynamic base for the whole run: that one, or one that is set by the first command */
     int has_base;       /* and whether the block at hand knows its base */
@@ -59,6 +62,7 @@ struct window {
     uint64_t at, bytes;
 };
 struct window window(uint32_t which);
+uint32_t most_dwords(void); /* that the code of this capture may have */
 void set_address(uint32_t which, uint64_t at);
 uint64_t rounded(uint64_t bytes); /* up to a page */
 

@@ -38,9 +38,19 @@ static uint32_t scratch_length(void)
     return one_in(3) ? PICK(edges) : one_in(4) ? below(1 << 20) : 4096 * (1 + below(4));
 }
 
+uint32_t most_dwords(void) { return m.is_long ? LIMIT : SMALL_LIMIT; }
+
+/* Of a long capture: at the limit and next to it, on either side, as often as between. */
+static size_t long_length(void)
+{
+    static const uint32_t edges[] = {SMALL_LIMIT + 1, LIMIT / 2, LIMIT - 1, LIMIT - 1, LIMIT, LIMIT, LIMIT, LIMIT + 1};
+    return one_in(2) ? PICK(edges) : SMALL_LIMIT + 1 + below(LIMIT - SMALL_LIMIT);
+}
+
 static size_t batch_length(void)
 {
     static const uint32_t edges[] = {1024, 2048, 3072, 4096};
+    if (m.is_long) return long_length();
     uint32_t kind = below(16);
     if (kind == 0) return PICK(edges);
     if (kind == 1) return 400 + below(3600);
@@ -53,7 +63,8 @@ static size_t state_length(void)
 {
     static const uint32_t ends[] = {1, 2, 5, 6, 9, 10, 16};
     static const uint32_t edges[] = {0, 1024, 4096};
-    uint32_t whole = 16 * below(one_in(8) ? 255 : 12);
+    if (m.is_long && one_in(3)) return long_length();
+    uint32_t whole = 16 * below(m.is_long ? LIMIT / 16 : one_in(8) ? 255 : 12);
     return one_in(6) ? PICK(edges) : whole + PICK(ends);
 }
 
@@ -592,14 +603,17 @@ static void emit_block(struct shape s, uint32_t block, uint32_t tail, uint32_t c
 static void emit_blocks(struct shape s)
 {
     uint32_t blocks = s.mains + s.seconds, order[BLOCKS] = {0}, commands = 1 + below(one_in(4) ? 400 : 12);
+    uint32_t in_mains = m.is_long ? 1 + below(one_in(2) ? LIMIT / 4 : 1000) : commands; /* what is called has fewer, or the budget would end most runs */
     for (uint32_t i = 0; i < blocks; i++) {
         uint32_t j = i > 1 ? 1 + below(i) : i;
         order[i] = order[j];
         order[j] = i;
     }
     for (uint32_t i = 0; i < blocks; i++) {
-        emit_block(s, order[i], 3 * (blocks - i - 1), commands);
-        if (one_in(3) && m.at + 3 * (blocks - i - 1) + 3 <= m.limit) junk(below(4));
+        uint32_t tail = 3 * (blocks - i - 1);
+        emit_block(s, order[i], tail, order[i] < s.mains ? in_mains : commands);
+        if (one_in(3) && m.at + tail + 3 <= m.limit) junk(below(4));
+        if (m.is_long && m.at + tail + 3 <= m.limit) junk(below(m.limit - m.at - tail - 2)); /* far jumps */
     }
     patch();
 }
@@ -609,8 +623,9 @@ static void emit_blocks(struct shape s)
 /* Windows of some lengths at some places, and structures in the state window. */
 void begin_windows(void)
 {
-    m.c->batch_len = m.aim == ENDLESS_RUN || m.aim == EXACT_RUN ? LIMIT : batch_length();
+    m.c->batch_len = m.aim == ENDLESS_RUN || m.aim == EXACT_RUN ? most_dwords() : batch_length();
     m.c->state_len = m.cut && one_in(4) ? 0 : state_length();
+    if (m.is_long && m.c->batch_len >= LIMIT - 1) m.whole = 1; /* or its code would decide how long it is */
     if (m.cut && m.c->state_len == 0) { /* its structures can only stand in the batch */
         m.whole = 1;
         if (m.c->batch_len < 128) m.c->batch_len += 128;
@@ -646,15 +661,16 @@ static void emit_short(uint32_t end, int second)
 /* A loop that never ends; at its smallest a start that goes to itself. */
 void make_endless(void)
 {
-    uint32_t before = one_in(3) ? 0 : below(40), in_loop = one_in(3) ? 0 : below(40), called = below(20);
-    m.limit = LIMIT, m.whole = 0;
-    for (uint32_t i = 0; i < before; i++) emit_short(LIMIT, 0);
+    uint32_t before = one_in(3) ? 0 : below(m.is_long ? 8000 : 40), in_loop = one_in(3) ? 0 : below(40), called = below(20);
+    uint32_t end = m.limit = most_dwords();
+    m.whole = 0;
+    for (uint32_t i = 0; i < before; i++) emit_short(end, 0);
     m.starts[0] = m.at;
-    for (uint32_t i = 0; i < in_loop; i++) emit_short(LIMIT, 0);
+    for (uint32_t i = 0; i < in_loop; i++) emit_short(end, 0);
     if (one_in(2)) emit_start(1, 1, 0);
     emit_start(0, 0, 0);
     m.starts[1] = m.at;
-    for (uint32_t i = 0; i < called; i++) emit_short(LIMIT, 1);
+    for (uint32_t i = 0; i < called; i++) emit_short(end, 1);
     emit_end(1);
     patch();
     m.c->batch_len = m.at;
@@ -664,9 +680,9 @@ void make_endless(void)
 static void emit_calls(uint32_t calls, uint32_t to, uint32_t singles, uint32_t kind)
 {
     for (uint32_t i = 0; i < calls; i++) emit_start(1, 0, to);
-    for (uint32_t i = 0; i < singles; i++) emit(NOOP, LIMIT, 0);
+    for (uint32_t i = 0; i < singles; i++) emit(NOOP, m.limit, 0);
     if (kind == 0) emit_end(0);
-    else emit(NOOP, LIMIT, 0);
+    else emit(NOOP, m.limit, 0);
     if (kind == 2) m.c->batch[m.at++] = one_in(2) ? 0x40000000 : word();
 }
 
@@ -677,12 +693,12 @@ static void emit_calls(uint32_t calls, uint32_t to, uint32_t singles, uint32_t k
 void make_exact(void)
 {
     uint32_t total = BUDGET - 2 + below(5), kind = one_in(2) ? 0 : 1 + below(2), jumps = kind != 0 || one_in(2);
-    uint32_t calls = 20 + below(60), each = (total - jumps - 1) / calls, singles = (total - jumps - 1) % calls;
+    uint32_t calls = (m.is_long ? 2 : 20) + below(60), each = (total - jumps - 1) / calls, singles = (total - jumps - 1) % calls;
     uint32_t main_dwords = 3 * calls + singles + 2;
-    m.limit = LIMIT, m.whole = 0;
+    m.limit = most_dwords(), m.whole = 0;
     if (jumps) emit_start(0, 1, 0); /* over the second-level batch, to what calls it */
     else emit_calls(calls, main_dwords - 1, singles, kind);
-    for (uint32_t i = each - 2; i > 0; i--) emit_short(LIMIT - i - (jumps ? main_dwords : 0), 1);
+    for (uint32_t i = each - 2; i > 0; i--) emit_short(m.limit - i - (jumps ? main_dwords : 0), 1);
     emit_end(1);
     m.starts[1] = m.at;
     if (jumps) emit_calls(calls, 3, singles, kind);

@@ -352,8 +352,8 @@ void cut_short(int number)
 {
     struct capture *c = m.c;
     struct command last = m.commands[one_in(4) ? below(m.made) : m.made - 1];
-    uint32_t row = below(ROWS), length = some_length(row, LIMIT - last.at), *cmd = c->batch + last.at;
-    if (number == 6 && one_in(3) && last.at + 3 <= LIMIT) { /* a call as the last command: what it keeps is the batch's end */
+    uint32_t row = below(ROWS), length = some_length(row, most_dwords() - last.at), *cmd = c->batch + last.at;
+    if (number == 6 && one_in(3) && last.at + 3 <= most_dwords()) { /* a call as the last command: what it keeps is the batch's end */
         m.at = last.at;
         emit_start(1, 0, m.starts[below(BLOCKS)]);
         c->batch_len = m.at;

@@ -7,7 +7,7 @@
 
 #include "../include/lungevati.h"
 
-enum { STREAM_WINDOW = 4096, STREAM_CELLS = 16384 };
+enum { STREAM_WINDOW = 65536, STREAM_CELLS = 65536 }; /* half the cells, and no run of so long a batch stores more words */
 
 enum stream_state {
     STREAM_RUNS,

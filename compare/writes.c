@@ -35,8 +35,8 @@ static uint32_t fixed_bits(uint32_t row)
  */
 static uint32_t refused_by(const uint32_t *cmd, size_t length)
 {
-    uint32_t record = 0;
-    struct lungevati_answer a = other_check(cmd, length, 0x100000, cmd, 0, 0x200000, 0x300000, 4096, &record, 1);
+    uint32_t record[2];
+    struct lungevati_answer a = other_check(cmd, length, 0x100000, cmd, 0, 0x200000, 0x300000, 4096, record, 2);
     return a.count == 0 && a.reason <= 10 ? a.reason : 0;
 }
 
@@ -130,10 +130,11 @@ int write_back(const struct capture *c, uint64_t seed, struct tally *t)
     if (a.reason) return refused_back(c, a, seed, &d, t);
     turn++;
     for (uint32_t i = 0; i < a.count; i++) {
-        uint32_t at = last_records[i] & 0xFFF, length = last_records[i] >> 16 & 0xFF;
+        const uint32_t *record = last_records + 2 * i;
+        uint32_t at = lungevati_record_index(record), length = lungevati_record_length(record);
         if (seen[at] == turn) continue;
         seen[at] = turn;
-        take_apart(c, at, last_records[i] >> 24, length, &d);
+        take_apart(c, at, lungevati_record_row(record), length, &d);
         if (!write_it(seed + i, t) || !written_back(c, at, length)) return 0;
         t->back++;
     }

@@ -9,10 +9,10 @@ int printf(const char *, ...);
 long read(int, void *, unsigned long);
 
 /* The largest capture file has 32,808 bytes; one more shows that a file is longer. */
-enum { MOST = 32808 + 1, WORDS = 4096 };
+enum { MOST = 32808 + 1, WORDS = 4096, RECORD_WORDS = 2 * WORDS };
 
 static uint8_t file[MOST];
-static uint32_t batch[WORDS], state[WORDS], records[WORDS];
+static uint32_t batch[WORDS], state[WORDS], records[RECORD_WORDS];
 
 static int say(uint32_t reason, uint32_t window, uint32_t index, uint32_t count)
 {
@@ -32,6 +32,6 @@ int main(void)
     struct lungevati_contents c = lungevati_read(file, size, batch, WORDS, state, WORDS);
     if (c.reason) return say(c.reason, c.window, c.index, c.count);
     struct lungevati_answer a = lungevati_check_no_base(batch, c.batch_count, c.batch_at, state, c.state_count, c.state_at,
-                                                        c.scratch_at, c.scratch_len, records, WORDS);
+                                                        c.scratch_at, c.scratch_len, records, RECORD_WORDS);
     return say(a.reason, a.window, a.index, a.count);
 }

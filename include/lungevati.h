@@ -1,9 +1,9 @@
 /*
- * Lungevati from C: the proved checker of captured GPU command buffers, and the proved writer of commands. Archive libapi.a, made by
- * `rt staticlib api`, has lungevati_check, lungevati_check_no_base, lungevati_read and lungevati_write; libapi_table.a, made by
- * `rt staticlib api_table`, has lungevati_check_table and lungevati_check_table_no_base. Both link into one program.
+ * Lungevati from C: the proved checker of captured GPU command buffers, the proved writer of commands, and what turns the listings of earlier versions.
+ * Archive libapi.a, made by `rt staticlib api`, has lungevati_check, lungevati_check_no_base, lungevati_read, lungevati_write and lungevati_turn;
+ * libapi_table.a, made by `rt staticlib api_table`, has lungevati_check_table and lungevati_check_table_no_base. Both link into one program.
  *
- * The numbers, places and rules are those of document 01. A reason is 0 (accepted, read, or written) or one of its refusal numbers.
+ * The numbers, places and rules are those of document 01. A reason is 0 (accepted, read, written, or turned) or one of its refusal numbers.
  * Each call returns whatever comes in, allocates nothing and keeps nothing between calls.
  *
  * The caller promises what no checker can test: each pointer is valid for the length given with it, and not null even
@@ -48,13 +48,16 @@ struct lungevati_answer {
  * Walks the capture and says whether it is allowed, and if not, which rule it breaks first and where. The walk starts with state_at as the dynamic
  * base, also where the state window is empty, as if the driver's first STATE_BASE_ADDRESS had set it: captures are cut behind that command.
  *
- *   batch, state    the two lent windows, only read, with their lengths in dwords and their addresses
+ *   batch, state    the two lent windows, only read, with their lengths in dwords and their addresses: the batch has 1 to 65,536 dwords and the
+ *                   state 0 to 65,536, or it is refused, 1
  *   scratch         is known by its address and its length in bytes alone
  *   the addresses   are plain numbers, also from 2^47 on, where those that commands use have ones above their 48 bits
- *   records         room for records_len records of one word each
+ *   records         records_len words, for records of two words each, as is said below: room for records_len / 2 of them, and an odd last word is
+ *                   room for none. A run has at most 65,536 commands, so that 131,072 words are enough for any
  *
- * Of `records`, the words 0 to count - 1 hold the records of the accepted commands, in the order in which they ran; every
- * word from `count` on is as it was. For the reasons 1 to 4 the count is 0. `count` is never more than `records_len`.
+ * Of `records`, the words 0 to 2 * count - 1 hold the records of the accepted commands, in the order in which they ran; every
+ * word from 2 * count on is as it was. For the reasons 1 to 4 the count is 0. `count` is never more than records_len / 2: it counts commands,
+ * and not words.
  */
 struct lungevati_answer lungevati_check(const uint32_t *batch, size_t batch_len, uint64_t batch_at,
                                         const uint32_t *state, size_t state_len, uint64_t state_at,
@@ -87,6 +90,20 @@ struct lungevati_answer lungevati_check_table_no_base(const uint32_t *batch, siz
                                                       uint64_t scratch_at, uint32_t scratch_len,
                                                       uint32_t *records, size_t records_len);
 
+/*
+ * The record of a command: two words, of which the functions below read the parts. Each takes a pointer to the record's first word: that of the command `i`
+ * is records + 2 * i.
+ *
+ *   first word      bits 15:0 the index of the command's first dword in the batch, bit 16 its level: 0, or 1 in a second-level batch
+ *   second word     bits 31:24 its row, bits 23:16 its length in dwords
+ *
+ * All other bits are 0.
+ */
+static inline uint32_t lungevati_record_index(const uint32_t *record) { return record[0] & 0xFFFF; }
+static inline uint32_t lungevati_record_level(const uint32_t *record) { return record[0] >> 16 & 1; }
+static inline uint32_t lungevati_record_row(const uint32_t *record) { return record[1] >> 24; }
+static inline uint32_t lungevati_record_length(const uint32_t *record) { return record[1] >> 16 & 0xFF; }
+
 /* What a capture file holds. On a refusal all but the reason is 0. */
 struct lungevati_contents {
     uint32_t reason;      /* 0 read, else 19, 20, 1 or 21, tried in this order */
@@ -106,6 +123,8 @@ struct lungevati_contents {
  *
  *   file            the whole file, only read, with its length in bytes
  *   batch, state    room for batch_len and state_len dwords
+ *
+ * A file has fewer dwords than a check takes: at most 4,096 in each window, or it is refused, 1, and at most 32,808 bytes, or it is refused, 19.
  *
  * On reason 0 each buffer is filled from word 0 with as many words as its count says, and the words after them are as they
  * were. On a refusal both buffers are as they were. The addresses are not judged here: lungevati_check does that.
@@ -141,6 +160,33 @@ struct lungevati_contents lungevati_read(const uint8_t *file, size_t file_len,
  */
 struct lungevati_answer lungevati_write(uint32_t row, uint32_t free_bits, const uint32_t *dwords, size_t dwords_len,
                                         uint32_t *batch, size_t batch_len, size_t first);
+
+/* What came of a listing: it may have more than 2^32 words. */
+struct lungevati_long_answer {
+    uint32_t reason; /* 0 turned, else 10 or 18, tried in this order */
+    uint32_t window; /* 0 */
+    uint64_t index;  /* of the old word, for 10; else 0 */
+    uint64_t count;  /* records turned; 0 on a refusal */
+};
+
+/*
+ * Turns a listing of the records that lungevati_check wrote before windows had 65,536 dwords into records of two words. Those were of one word: the index in
+ * bits 11:0, the level in bit 12, the length in bits 23:16, the row in bits 31:24.
+ *
+ *   old_words       the listing, only read: old_len words, each a record
+ *   new_words       a buffer of new_len words, at least two for each old one
+ *
+ * On reason 0 the words 0 to 2 * count - 1 of new_words hold the records of the same commands in the same order, and its other words are as they were. A
+ * row that no command has is kept as it is. An empty listing is turned into nothing, whatever the room.
+ *
+ * Otherwise it is refused, and every word of new_words is as it was:
+ *
+ *   10    one of the bits 15:13 of an old word is set: at the first such word. All words are tried before the room is
+ *   18    new_len is less than two words for each old one
+ *
+ * `old_words` and `new_words` must not overlap.
+ */
+struct lungevati_long_answer lungevati_turn(const uint32_t *old_words, size_t old_len, uint32_t *new_words, size_t new_len);
 
 #ifdef __cplusplus
 }

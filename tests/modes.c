@@ -20,10 +20,11 @@ static const uint32_t values[] = {
 };
 enum { VALUES = sizeof values / sizeof values[0] };
 
-/* The capture: a STATE_BASE_ADDRESS that sets the dynamic base to the state window, a pointer to a structure there, and the end. */
-enum { STATE_AT = 0x200000, STRUCTURE = 16, POINTER = 16, END = 18 };
+/* The capture: a STATE_BASE_ADDRESS that sets the dynamic base to the state window, a pointer to a structure there, and the end; and the words of the
+ * records of all three. */
+enum { STATE_AT = 0x200000, STRUCTURE = 16, POINTER = 16, END = 18, RECORD_WORDS = 2 * 3 };
 static uint32_t batch[END + 1] = {[0] = 0x6101000E, [6] = STATE_AT | 1, [END] = 0x05000000};
-static uint32_t state[STRUCTURE + 6], records[3];
+static uint32_t state[STRUCTURE + 6], records[RECORD_WORDS];
 
 static unsigned long asked, wrong;
 
@@ -140,7 +141,7 @@ static void ask_engine(check_call *check, uint32_t mode, struct lungevati_answer
     struct lungevati_answer a;
     uint32_t after;
     set_mode(mode);
-    a = check(batch, END + 1, 0x100000, state, STRUCTURE + 6, STATE_AT, 0x300000, 4096, records, 3);
+    a = check(batch, END + 1, 0x100000, state, STRUCTURE + 6, STATE_AT, 0x300000, 4096, records, RECORD_WORDS);
     after = mode_now();
     set_mode(USUAL);
     if (!same(a, must) || (after & ~FLAGS) != mode) say_wrong(mode, after, a, must);

@@ -3,10 +3,12 @@ ghost use mathlib.Core.Path.{_≡_};
 ghost use Rattle.rules.specs.declared.BaseChoice.the-variants.{StateWindow, NoBase};
 ghost use Rattle.rules.specs.Records.{CheckedFrom};
 ghost use Rattle.rules.specs.Writer.{Written};
+ghost use Rattle.rules.specs.Listings.{Turned};
 ghost use Rattle.walk.specs.Lent.{lentCapture};
 ghost use Rattle.api.specs.Read.{Small, flatOf, ReadOut};
 use rules::Answer;
 use rules::BaseChoice;
+use rules::LongAnswer;
 use rules::Opened;
 use rules::faults::number;
 
@@ -127,4 +129,12 @@ pub extern "C" fn lungevati_write(
     ensures { λ r. ⌜ Written row «free_bits» (now (dwords .entry)) first (now (batch .entry)) r (now (batch .exit)) ⌝ }
 {
     writer::write(row, free_bits, dwords, batch, first)
+}
+
+// Turns an old listing into the new form: `listing::turn`, with its promise.
+#[no_mangle]
+pub extern "C" fn lungevati_turn(old: &[u32], new: &mut [u32]) -> LongAnswer
+    ensures { λ r. ⌜ Turned (now (old .entry)) (now (new .entry)) r (now (new .exit)) ⌝ }
+{
+    listing::turn(old, new)
 }

@@ -39,6 +39,9 @@ const ENTRY: usize = 4098;
 // More bytes than a file of names will have.
 const MOST_NAMES: usize = 0x100_0000_0000;
 
+// Record words lent: two for each of 4,096 commands.
+const RECORD_WORDS: usize = 8192;
+
 // Reasons by their numbers, 1 to 22.
 const REASONS: usize = 23;
 
@@ -112,7 +115,7 @@ fn caused(batch: &[u32], count: usize, batch_at: u64, records: &[u32], answer: A
     if batch.len() < count {
         return Detail::NoMore;
     }
-    if records.len() < answer.count as usize {
+    if records.len() / 2 < answer.count as usize {
         return Detail::NoMore;
     }
     cause(&batch[..count], batch_at, records, answer)
@@ -143,7 +146,7 @@ fn judged(
     size: Detail,
     batch: &mut [u32; 4096],
     state: &mut [u32; 4096],
-    records: &mut [u32; 4096],
+    records: &mut [u32; RECORD_WORDS],
 ) -> Finding {
     let answer = capture::judge(choice, file, batch, state, records);
     let dword = if answer.window == 0 {
@@ -248,7 +251,7 @@ fn look_open(
     file: &mut [u8; MOST_BYTES],
     batch: &mut [u32; 4096],
     state: &mut [u32; 4096],
-    records: &mut [u32; 4096],
+    records: &mut [u32; RECORD_WORDS],
 ) -> Look {
     let n = io::read_full(fd, file);
     if n < MOST_BYTES {
@@ -267,7 +270,7 @@ fn look_at(
     file: &mut [u8; MOST_BYTES],
     batch: &mut [u32; 4096],
     state: &mut [u32; 4096],
-    records: &mut [u32; 4096],
+    records: &mut [u32; RECORD_WORDS],
 ) -> Look {
     let fd = os::open_read(name);
     if fd < 0 {
@@ -625,7 +628,7 @@ fn audit_arguments(
     file: &mut [u8; MOST_BYTES],
     batch: &mut [u32; 4096],
     state: &mut [u32; 4096],
-    records: &mut [u32; 4096],
+    records: &mut [u32; RECORD_WORDS],
     reasons: &mut [u64; REASONS],
 ) -> Run {
     let choice = wish.choice;
@@ -649,7 +652,7 @@ fn look_by_letter(
     file: &mut [u8; MOST_BYTES],
     batch: &mut [u32; 4096],
     state: &mut [u32; 4096],
-    records: &mut [u32; 4096],
+    records: &mut [u32; RECORD_WORDS],
 ) -> Look {
     if letter == b'u' {
         return Look::Unlisted;
@@ -703,7 +706,7 @@ fn audit_stream(
     file: &mut [u8; MOST_BYTES],
     batch: &mut [u32; 4096],
     state: &mut [u32; 4096],
-    records: &mut [u32; 4096],
+    records: &mut [u32; RECORD_WORDS],
     reasons: &mut [u64; REASONS],
 ) -> Run {
     let choice = wish.choice;
@@ -742,7 +745,7 @@ fn main() {
     let mut file = [0u8; MOST_BYTES];
     let mut batch = [0u32; 4096];
     let mut state = [0u32; 4096];
-    let mut records = [0u32; 4096];
+    let mut records = [0u32; RECORD_WORDS];
     let mut reasons = [0u64; REASONS];
     let run = if wish.stream {
         audit_stream(

@@ -16,9 +16,10 @@ use Rattle.rules.specs.Refusals.{batchWindow, fault, numberOf, answerWith}
 use Rattle.rules.specs.Windows.{Capture, lengthsOf, windowFault}
 use Rattle.rules.specs.Step.{budget, stepOf}
 use Rattle.rules.specs.Walk.{Run, ended, trace, traceFrom, cut, start, walk, Leads, stays, onward, commandsOf, endOf, answerOf}
-use Rattle.rules.specs.Records.{recordOf, wordsOf, writtenOf}
+use Rattle.rules.specs.Records.{firstWord, secondWord, wordsOf, wordsFor, writtenOf}
 use Rattle.rules.specs.Cases.{caseCapture}
 use Rattle.rules.specs.Book.{book}
+use Rattle.rules.proofs.Listing.{words-counted}
 use Rattle.rules.proofs.Walking.{walk-sound}
 use Rattle.rules.proofs.Running.{follow, trace-follows, cut-follows, commands-follow, end-follows}
 
@@ -48,16 +49,17 @@ leads (suc n) = onward turn (leads n)
 
 -- the record of a turn, n times
 pub turnWords : ℕ → List ℕ
-turnWords n = replicate n 0x02030000
+turnWords zero = []
+turnWords (suc n) = 0x00000000 ∷ 0x02030000 ∷ turnWords n
 
 words-of-turns : (n : ℕ) → wordsOf (turns n) ≡ turnWords n
-unfolding turns wordsOf turnWords recordOf
+unfolding turns wordsOf turnWords firstWord secondWord
 words-of-turns zero = refl
-words-of-turns (suc n) = ap (λ l. 0x02030000 ∷ l) (words-of-turns n)
+words-of-turns (suc n) = ap (λ l. 0x00000000 ∷ 0x02030000 ∷ l) (words-of-turns n)
 
-words-counted : (n : ℕ) → length (turnWords n) ≡ n
-unfolding turnWords
-words-counted n = length-replicate n 0x02030000
+words-of-budget : length (turnWords budget) ≡ 131072
+unfolding wordsFor
+words-of-budget = ap length (sym (words-of-turns budget)) ∙ words-counted (turns budget) ∙ ap wordsFor (counted budget)
 
 -- a run with a budget of n and room for more is stopped by the budget
 abbrev spent : Run
@@ -88,8 +90,8 @@ answers more =
     ∙ rw (end-follows (turns budget) _, commands-follow (turns budget) _, append-nil, counted budget)
 
 -- and each of the 65,536 records is the jump's; the words behind them stay
-pub written : (more : ℕ) (old : List ℕ) → writtenOf (walk Unset looping (budget + more)) old ≡ turnWords budget ++ drop 65536 old
+pub written : (more : ℕ) (old : List ℕ) → writtenOf (walk Unset looping (budget + more)) old ≡ turnWords budget ++ drop 131072 old
 unfolding writtenOf commandsOf
 written more old =
     ap (λ run. writtenOf run old) (whole more)
-    ∙ rw (commands-follow (turns budget) _, append-nil, words-of-turns budget, words-counted budget)
+    ∙ rw (commands-follow (turns budget) _, append-nil, words-of-turns budget, words-of-budget)

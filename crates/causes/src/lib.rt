@@ -17,23 +17,23 @@ ghost use mathlib.Core.Path.{_≡_};
 ghost use Prim.Native.Nat.{_-_, _≤_, _<_};
 ghost use lib.ListN.{length, take};
 ghost use Rattle.rules.specs.Commands.{spot};
-ghost use Rattle.rules.specs.Records.{commandOf, commandsIn};
+ghost use Rattle.rules.specs.Records.{commandOf, commandsIn, wordsFor};
 ghost use Rattle.causes.specs.Causes.{behind, keptBy, leadsTo, keptAfter, positionAfter, reachOf, reachWith, reachAt, ofCommand, detailAt, causeOf};
 
-// The position behind the command that a record names.
-fn behind(word: u32) -> usize
-    ensures { λ r. ⌜ r ≡ behind (commandOf word) ⌝ }
+// The position behind the command that a record names, by its two words.
+fn behind(first: u32, second: u32) -> usize
+    ensures { λ r. ⌜ r ≡ behind (commandOf first second) ⌝ }
 {
-    let c = command(word);
+    let c = command(first, second);
     c.index + c.length
 }
 
 // The kept position after the command that a record names.
-fn kept_by(kept: usize, word: u32) -> usize
-    ensures { λ r. ⌜ r ≡ keptBy kept (commandOf word) ⌝ }
+fn kept_by(kept: usize, first: u32, second: u32) -> usize
+    ensures { λ r. ⌜ r ≡ keptBy kept (commandOf first second) ⌝ }
 {
-    if command(word).level == 0 {
-        behind(word)
+    if command(first, second).level == 0 {
+        behind(first, second)
     } else {
         kept
     }
@@ -41,28 +41,28 @@ fn kept_by(kept: usize, word: u32) -> usize
 
 // The kept position after the commands of the first records.
 fn kept_after(records: &[u32], count: usize) -> usize
-    requires { ⌜ count ≤ length (now records) ⌝ }
-    ensures { λ r. ⌜ r ≡ keptAfter 0 (commandsIn (take count (now (records .entry)))) ⌝ }
+    requires { ⌜ wordsFor count ≤ length (now records) ⌝ }
+    ensures { λ r. ⌜ r ≡ keptAfter 0 (commandsIn (take (wordsFor count) (now (records .entry)))) ⌝ }
 {
     let mut kept = 0;
     let mut i = 0;
     while i < count {
-        kept = kept_by(kept, records[i]);
+        kept = kept_by(kept, records[2 * i], records[2 * i + 1]);
         i += 1;
     }
     kept
 }
 
 // Where the command that a record names leads.
-fn leads_to(batch: &[u32], batch_at: u64, kept: usize, word: u32) -> usize
-    ensures { λ r. ⌜ r ≡ leadsTo (now (batch .entry)) «batch_at» kept (commandOf word) ⌝ }
+fn leads_to(batch: &[u32], batch_at: u64, kept: usize, first: u32, second: u32) -> usize
+    ensures { λ r. ⌜ r ≡ leadsTo (now (batch .entry)) «batch_at» kept (commandOf first second) ⌝ }
 {
-    let c = command(word);
+    let c = command(first, second);
     if c.row == END_ROW {
         return kept;
     }
     if c.row != START_ROW {
-        return behind(word);
+        return behind(first, second);
     }
     let low = dword(batch, c.index + 1);
     let high = dword(batch, c.index + 2);
@@ -71,14 +71,21 @@ fn leads_to(batch: &[u32], batch_at: u64, kept: usize, word: u32) -> usize
 
 // Where the walk stands after the commands of the first records: where the last of them leads.
 pub fn position(batch: &[u32], batch_at: u64, records: &[u32], count: usize) -> usize
-    requires { ⌜ count ≤ length (now records) ⌝ }
+    requires { ⌜ wordsFor count ≤ length (now records) ⌝ }
     ensures { λ r. ⌜ r ≡ positionAfter (now (batch .entry)) «batch_at» (now (records .entry)) count ⌝ }
 {
     if count == 0 {
         return 0;
     }
     let last = count - 1;
-    leads_to(batch, batch_at, kept_after(records, last), records[last])
+    let kept = kept_after(records, last);
+    leads_to(
+        batch,
+        batch_at,
+        kept,
+        records[2 * last],
+        records[2 * last + 1],
+    )
 }
 
 // Which dword of its group the dword k of a command is.
@@ -162,7 +169,7 @@ fn detail_at(batch: &[u32], at: usize, answer: Answer) -> Detail
 
 // What happened at a refused command, by the batch, its address, the records and the answer.
 pub fn cause(batch: &[u32], batch_at: u64, records: &[u32], answer: Answer) -> Detail
-    requires { ⌜ answer .count ≤ length (now records) ⌝ }
+    requires { ⌜ wordsFor (answer .count) ≤ length (now records) ⌝ }
     ensures { λ r. ⌜ r ≡ causeOf (now (batch .entry)) «batch_at» (now (records .entry)) answer ⌝ }
 {
     let at = position(batch, batch_at, records, answer.count as usize);

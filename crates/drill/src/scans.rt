@@ -2,6 +2,7 @@
 use crate::reading::pick;
 use crate::sayings;
 use crate::windows::ARGUMENTS;
+use crate::windows::LENT;
 use crate::windows::QUESTION_NUMBERS;
 use crate::windows::ROOM;
 use crate::windows::UNWRITTEN;
@@ -53,7 +54,15 @@ fn value(letter: u8, v: u32, x: u32, stood: u32, words: &[u32; WORDS]) -> u32 {
 
 // Asks at each of n values of the word at a place, which stood so, and answers the last of them. No answer comes before the first. Only
 // a copy of the words is varied, so that the dword stands as it stood for the lines behind.
-fn ask_each(letter: u8, n: u32, place: u32, stood: u32, words: &[u32; WORDS]) -> u32 {
+fn ask_each(
+    letter: u8,
+    n: u32,
+    place: u32,
+    stood: u32,
+    words: &[u32; WORDS],
+    records: &mut [u32; LENT],
+    twin: &mut [u32; LENT],
+) -> u32 {
     let mut varied = *words;
     let mut before = Answer {
         reason: UNWRITTEN,
@@ -66,18 +75,24 @@ fn ask_each(letter: u8, n: u32, place: u32, stood: u32, words: &[u32; WORDS]) ->
     while v < n {
         x = value(letter, v, x, stood, words);
         set(place, x, &mut varied);
-        before = sayings::found(x, ask(false, &varied), before);
+        before = sayings::found(x, ask(false, &varied, records, twin), before);
         v += 1;
     }
     x
 }
 
 // Asks at the values of the dword that the line names, if it asks for any. There are four windows.
-pub(crate) fn scan(letter: u8, words: &[u32; WORDS]) {
+pub(crate) fn scan(
+    letter: u8,
+    words: &[u32; WORDS],
+    records: &mut [u32; LENT],
+    twin: &mut [u32; LENT],
+) {
     let n = values(letter, words);
     if 0 < n {
         let window = get(WINDOW, words) % 4;
         let place = wrapping_add_u32(window * ROOM, get(DWORD, words));
-        sayings::last(ask_each(letter, n, place, get(place, words), words));
+        let stood = get(place, words);
+        sayings::last(ask_each(letter, n, place, stood, words, records, twin));
     }
 }

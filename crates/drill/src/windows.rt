@@ -1,11 +1,12 @@
 // The words that the lines set: four windows of them in one array, and the one place that asks the checker about them.
 ghost use Prim.Native.Nat.{_≤_};
+ghost use lib.ListN.{length};
 use crate::sayings;
 use rules::Answer;
 use rules::BaseChoice;
 
-// Room in each window: more dwords than document 01 accepts, and than a line has.
-pub(crate) const ROOM: u32 = 0x2100;
+// Room in each window: more dwords than are accepted, and than a line has.
+pub(crate) const ROOM: u32 = 0x1_0100;
 
 // The place behind all windows, and so how many words there are.
 pub(crate) const END: u32 = 4 * ROOM;
@@ -37,8 +38,8 @@ const STATE_DWORDS: u32 = NUMBERS + 9;
 
 pub(crate) const QUESTION_NUMBERS: u32 = NUMBERS + 11;
 
-// Words enough for the records of a run of 65,536 commands.
-pub(crate) const LENT: usize = 65600;
+// Words enough for the records of a run of 65,536 commands, and some behind them.
+pub(crate) const LENT: usize = 0x2_0100;
 
 // A record word that nobody has written: no record is like it.
 pub(crate) const UNWRITTEN: u32 = 0xEEEE_EEEE;
@@ -88,6 +89,15 @@ fn places_of(words: &[u32; WORDS]) -> Places {
     }
 }
 
+// Makes the first n words of a buffer such as nobody has written: no others are lent.
+fn unwrite(all: &mut [u32; LENT], n: usize) {
+    let mut i = 0;
+    while i < n && i < LENT {
+        all[i] = UNWRITTEN;
+        i += 1;
+    }
+}
+
 // Whether two buffers have the same first n words.
 fn alike(a: &[u32; LENT], b: &[u32; LENT], n: usize) -> bool {
     let mut i = 0;
@@ -100,20 +110,17 @@ fn alike(a: &[u32; LENT], b: &[u32; LENT], n: usize) -> bool {
     true
 }
 
-// Asks both engines about the capture that the words make, with no more lent to them than the capture has. Where they do not answer alike, both
-// answers are printed; aloud, the answer is, and every record word lent.
-pub(crate) fn ask(aloud: bool, words: &[u32; WORDS]) -> Answer {
-    let all: &[u32] = words;
-    let room = ROOM as usize;
-    let dwords = at_most(room, BATCH_DWORDS, words);
-    let batch = &all[..dwords];
-    let end = room + at_most(room, STATE_DWORDS, words);
-    let state = &all[room..end];
-    let at = places_of(words);
-    let lent = at_most(LENT, RECORD_WORDS, words);
-    let mut records = [UNWRITTEN; LENT];
-    let mut twin = [UNWRITTEN; LENT];
-    let answer = walk::check_from(
+// The table engine's answer, with the first words of a buffer lent for its records.
+fn by_table<'a>(
+    batch: &'a [u32],
+    state: &'a [u32],
+    at: Places,
+    records: &mut [u32],
+    lent: usize,
+) -> Answer
+    requires { ⌜ lent ≤ length (now records) ⌝ }
+{
+    walk::check_from(
         BaseChoice::NoBase,
         batch,
         at.batch,
@@ -122,8 +129,20 @@ pub(crate) fn ask(aloud: bool, words: &[u32; WORDS]) -> Answer {
         at.scratch,
         at.bytes,
         &mut records[..lent],
-    );
-    let plainly = plain::check_from(
+    )
+}
+
+// The plain engine's.
+fn by_rules<'a>(
+    batch: &'a [u32],
+    state: &'a [u32],
+    at: Places,
+    records: &mut [u32],
+    lent: usize,
+) -> Answer
+    requires { ⌜ lent ≤ length (now records) ⌝ }
+{
+    plain::check_from(
         BaseChoice::NoBase,
         batch,
         at.batch,
@@ -131,12 +150,34 @@ pub(crate) fn ask(aloud: bool, words: &[u32; WORDS]) -> Answer {
         at.state,
         at.scratch,
         at.bytes,
-        &mut twin[..lent],
-    );
-    sayings::unlike(answer, plainly, alike(&records, &twin, lent));
+        &mut records[..lent],
+    )
+}
+
+// Asks both engines about the capture that the words make, with no more lent to them than the capture has. Where they do not answer alike, both
+// answers are printed; aloud, the answer is, and every record word lent.
+pub(crate) fn ask(
+    aloud: bool,
+    words: &[u32; WORDS],
+    records: &mut [u32; LENT],
+    twin: &mut [u32; LENT],
+) -> Answer {
+    let all: &[u32] = words;
+    let room = ROOM as usize;
+    let dwords = at_most(room, BATCH_DWORDS, words);
+    let batch = &all[..dwords];
+    let end = room + at_most(room, STATE_DWORDS, words);
+    let state = &all[room..end];
+    let at = places_of(words);
+    let lent = at_most(LENT, RECORD_WORDS, words);
+    unwrite(records, lent);
+    unwrite(twin, lent);
+    let answer = by_table(batch, state, at, records, lent);
+    let plainly = by_rules(batch, state, at, twin, lent);
+    sayings::unlike(answer, plainly, alike(records, twin, lent));
     if aloud {
         sayings::answer(answer);
-        sayings::words(&records, get(RECORD_WORDS, words));
+        sayings::words(records, get(RECORD_WORDS, words));
     }
     answer
 }

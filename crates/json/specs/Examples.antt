@@ -34,12 +34,12 @@ an-unlisted-file = refl
 
 -- 13 refused two, 19 one; by the default
 pub the-totals : totalsLine (record { accepted = 4; refused = 3; unread = 0; missing = 1; unlisted = 2 }) (replicate 13 0 ++ (2 ∷ 0 ∷ 0 ∷ 0 ∷ 0 ∷ 0 ∷ 1 ∷ 0 ∷ 0 ∷ 0 ∷ [])) StateWindow
-    ≡ bytes "{\"accepted\":4,\"refused\":3,\"unread\":0,\"missing\":1,\"unlisted\":2,\"reasons\":{\"13\":2,\"19\":1},\"rules\":\"01+1+2+3+4+5+6\",\"base\":\"state\"}\n"
+    ≡ bytes "{\"accepted\":4,\"refused\":3,\"unread\":0,\"missing\":1,\"unlisted\":2,\"reasons\":{\"13\":2,\"19\":1},\"rules\":\"01+1+2+3+4+5+6+7\",\"base\":\"state\"}\n"
 unfolding digitsOf reasonText reasonsOn countsText baseText totalsLine
 the-totals = refl
 
 -- without a base
 pub no-refusal : totalsLine (record { accepted = 1; refused = 0; unread = 0; missing = 0; unlisted = 0 }) (replicate 23 0) NoBase
-    ≡ bytes "{\"accepted\":1,\"refused\":0,\"unread\":0,\"missing\":0,\"unlisted\":0,\"reasons\":{},\"rules\":\"01+1+2+3+4+5+6\",\"base\":\"none\"}\n"
+    ≡ bytes "{\"accepted\":1,\"refused\":0,\"unread\":0,\"missing\":0,\"unlisted\":0,\"reasons\":{},\"rules\":\"01+1+2+3+4+5+6+7\",\"base\":\"none\"}\n"
 unfolding digitsOf reasonText reasonsOn countsText baseText totalsLine
 no-refusal = refl

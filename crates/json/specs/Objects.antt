@@ -19,7 +19,7 @@ use Rattle.json.specs.Strings.{quoted}
 
 -- the rules that are checked: document 01 with the requests that have landed, by number. Each landing changes it, here and in `RULES`
 abbrev pub rulesText : List ℕ
-rulesText = bytes "01+1+2+3+4+5+6"
+rulesText = bytes "01+1+2+3+4+5+6+7"
 
 unfoldable pub outcomeText : Outcome → List ℕ
 outcomeText Accepted = bytes "accepted"

@@ -21,6 +21,9 @@ use rules::BaseChoice;
 // The status of a run whose output could not be written: nothing is read after it.
 const UNWRITTEN: u8 = 3;
 
+// Record words lent: two for each of 4,096 commands.
+const RECORD_WORDS: usize = 8192;
+
 // How many bytes of lines are gathered before they are written: a capture of 4,096 commands takes two pages.
 const PAGE_BYTES: usize = 32768;
 
@@ -69,20 +72,20 @@ fn print_answer(answer: Answer) -> bool {
 // Prints the line of each record.
 fn print_records(page: &mut [u8; PAGE_BYTES], records: &[u32]) -> bool {
     let mut i = 0;
-    while i < records.len() {
+    while i + 1 < records.len() {
         let gathered = printout::record_lines(page, &records[i..]);
         if !write_page(page, gathered.bytes) {
             return false;
         }
-        i += gathered.lines;
+        i += 2 * gathered.lines;
     }
     true
 }
 
-// The first of the record words, as many as are told.
+// The words of the first records, as many as are told.
 fn told(records: &[u32], count: usize) -> &[u32] {
-    if count < records.len() {
-        &records[..count]
+    if count < records.len() / 2 {
+        &records[..2 * count]
     } else {
         records
     }
@@ -94,7 +97,7 @@ fn print_judgement(
     page: &mut [u8; PAGE_BYTES],
     batch: &mut [u32; 4096],
     state: &mut [u32; 4096],
-    records: &mut [u32; 4096],
+    records: &mut [u32; RECORD_WORDS],
     file: &[u8],
 ) -> u8 {
     let answer = capture::judge(choice, file, batch, state, records);
@@ -200,7 +203,7 @@ fn answer_bytes(
     page: &mut [u8; PAGE_BYTES],
     batch: &mut [u32; 4096],
     state: &mut [u32; 4096],
-    records: &mut [u32; 4096],
+    records: &mut [u32; RECORD_WORDS],
     file: &[u8],
     name: &[u8],
     among_several: bool,
@@ -219,7 +222,7 @@ fn answer_input(
     page: &mut [u8; PAGE_BYTES],
     batch: &mut [u32; 4096],
     state: &mut [u32; 4096],
-    records: &mut [u32; 4096],
+    records: &mut [u32; RECORD_WORDS],
     bytes: &mut [u8],
     fd: i32,
     name: &[u8],
@@ -266,7 +269,7 @@ fn answer_file(
     text: &mut [u8; NAME_BYTES],
     batch: &mut [u32; 4096],
     state: &mut [u32; 4096],
-    records: &mut [u32; 4096],
+    records: &mut [u32; RECORD_WORDS],
     bytes: &mut [u8],
     name: &[u8],
     among_several: bool,
@@ -302,7 +305,7 @@ fn answer_argument(
     text: &mut [u8; NAME_BYTES],
     batch: &mut [u32; 4096],
     state: &mut [u32; 4096],
-    records: &mut [u32; 4096],
+    records: &mut [u32; RECORD_WORDS],
     bytes: &mut [u8],
     i: usize,
     among_several: bool,
@@ -341,7 +344,7 @@ fn answer_arguments(
     text: &mut [u8; NAME_BYTES],
     batch: &mut [u32; 4096],
     state: &mut [u32; 4096],
-    records: &mut [u32; 4096],
+    records: &mut [u32; RECORD_WORDS],
     bytes: &mut [u8],
     count: usize,
 ) -> u8 {
@@ -372,7 +375,7 @@ fn main() {
     let mut text = [0u8; NAME_BYTES];
     let mut batch = [0u32; 4096];
     let mut state = [0u32; 4096];
-    let mut records = [0u32; 4096];
+    let mut records = [0u32; RECORD_WORDS];
     let mut bytes = [0u8; MOST_BYTES];
     let count = os::arg_count();
     let status = if count < 3 {

@@ -15,9 +15,9 @@ module _ {old new new′ : List ℕ} {r r′ : ℕ} where
       → (r ≡ r′) × (new ≡ new′)
   answer-line-unique answer = one-line
 
-  pub record-line-unique : (word : ℕ) → Line (recordLine word) old r new → Line (recordLine word) old r′ new′
+  pub record-line-unique : (first second : ℕ) → Line (recordLine first second) old r new → Line (recordLine first second) old r′ new′
       → (r ≡ r′) × (new ≡ new′)
-  record-line-unique word = one-line
+  record-line-unique first second = one-line
 
 pub page-unique : {records old new new′ : List ℕ} {page page′ : Page} → Gathered records old page new → Gathered records old page′ new′
     → (page .lines ≡ page′ .lines) × (page .bytes ≡ page′ .bytes) × (new ≡ new′)

@@ -5,8 +5,9 @@ use mathlib.Core.Bool.{cond}
 use mathlib.Core.List.{List, [], _∷_}
 use lib.ListN.{length, take}
 use lib.Dec.{ltb}
+use Rattle.rules.specs.declared.Command.{Command}
 use Rattle.rules.specs.Records.{commandsIn}
-use Rattle.rules.specs.Printout.{recordLine, commandLines}
+use Rattle.rules.specs.Printout.{commandLine, commandLines}
 use Rattle.lines.specs.Lines.{Line}
 use Rattle.printout.specs.declared.Page.{Page}
 
@@ -14,12 +15,12 @@ use Rattle.printout.specs.declared.Page.{Page}
 abbrev pub lineBytes : ℕ
 lineBytes = 84
 
--- how many of the records' lines a page of so many bytes takes: one more as long as there is room for the longest
-unfoldable pub linesIn : ℕ → List ℕ → ℕ
+-- how many of the commands' lines a page of so many bytes takes: one more as long as there is room for the longest
+unfoldable pub linesIn : ℕ → List Command → ℕ
 linesIn room [] = 0
-linesIn room (word ∷ words) = cond (ltb room lineBytes) 0 (suc (linesIn (room - length (recordLine word)) words))
+linesIn room (c ∷ cs) = cond (ltb room lineBytes) 0 (suc (linesIn (room - length (commandLine c)) cs))
 
 -- THE PROMISE of `printout::record_lines`: how many lines are in the page, how many bytes they have, and every byte of it as it returns
 pub record Gathered (records old : List ℕ) (page : Page) (new : List ℕ) : Type 0 where
-  pub lines : page .lines ≡ linesIn (length old) records
-  pub bytes : Line (commandLines (commandsIn (take (page .lines) records))) old (page .bytes) new
+  pub lines : page .lines ≡ linesIn (length old) (commandsIn records)
+  pub bytes : Line (commandLines (take (page .lines) (commandsIn records))) old (page .bytes) new

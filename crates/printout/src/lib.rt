@@ -44,16 +44,17 @@ pub fn answer_line(out: &mut [u8; 128], answer: Answer) -> usize
     put_byte(out, end, b'\n')
 }
 
-// What a record says.
-pub fn command(word: u32) -> Command
-    ensures { λ r. ⌜ r ≡ commandOf word ⌝ }
+// What a record says, by its two words.
+pub fn command(first: u32, second: u32) -> Command
+    ensures { λ r. ⌜ r ≡ commandOf first second ⌝ }
 {
-    let bits = word as usize;
+    let place = first as usize;
+    let kind = second as usize;
     Command {
-        index: bits % 0x1000,
-        level: bits / 0x1000 % 2,
-        row: bits / 0x1000000 % 0x100,
-        length: bits / 0x10000 % 0x100,
+        index: place % 0x10000,
+        level: place / 0x10000 % 2,
+        row: kind / 0x1000000 % 0x100,
+        length: kind / 0x10000 % 0x100,
     }
 }
 
@@ -69,10 +70,10 @@ fn put_command(out: &mut [u8], at: usize, c: Command) -> usize
 }
 
 // A record's line, from byte 0 on, and its length.
-pub fn record_line(out: &mut [u8; 128], word: u32) -> usize
-    ensures { λ r. ⌜ Line (recordLine word) (now (out .entry)) r (now (out .exit)) ⌝ }
+pub fn record_line(out: &mut [u8; 128], first: u32, second: u32) -> usize
+    ensures { λ r. ⌜ Line (recordLine first second) (now (out .entry)) r (now (out .exit)) ⌝ }
 {
-    put_command(out, 0, command(word))
+    put_command(out, 0, command(first, second))
 }
 
 // The most bytes of a record's line.
@@ -84,14 +85,18 @@ pub struct Page {
     pub bytes: usize,
 }
 
-// The lines of the records, from the first on, gathered in a page from byte 0 on, as many as there is surely room for.
+// The lines of the records, from the first on, gathered in a page from byte 0 on, as many as there is surely room for. An odd last word is no record.
 pub fn record_lines(out: &mut [u8], records: &[u32]) -> Page
     ensures { λ r. ⌜ Gathered (now (records .entry)) (now (out .entry)) r (now (out .exit)) ⌝ }
 {
     let mut lines = 0;
     let mut bytes = 0;
-    while lines < records.len() && bytes + LINE_BYTES <= out.len() {
-        bytes = put_command(out, bytes, command(records[lines]));
+    while lines < records.len() / 2 && bytes + LINE_BYTES <= out.len() {
+        bytes = put_command(
+            out,
+            bytes,
+            command(records[2 * lines], records[2 * lines + 1]),
+        );
         lines += 1;
     }
     Page { lines, bytes }

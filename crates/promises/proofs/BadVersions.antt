@@ -47,7 +47,7 @@ c7-count : {r : Answer} {new : List ℕ} → Demand2 Unset c7 ample r new → r 
 unfolding book
 c7-count d = ap (λ (a : Answer). a .count) (answer-decided d)
 
-c7-records : {r : Answer} {new : List ℕ} → Demand2 Unset c7 ample r new → take (wordsFor (r .count)) new ≡ 0x02030000 ∷ 0x01011004 ∷ 0x01010003 ∷ []
+c7-records : {r : Answer} {new : List ℕ} → Demand2 Unset c7 ample r new → take (wordsFor (r .count)) new ≡ 0x00000000 ∷ 0x02030000 ∷ 0x00010004 ∷ 0x01010000 ∷ 0x00000003 ∷ 0x01010000 ∷ []
 unfolding book
 c7-records d = records-decided d
 
@@ -71,7 +71,7 @@ writes-none v bad m =
     let d = m c7 ample in
     let n = wordsFor (v .answer c7 ample .count) in
     let e = ap (λ (k : ℕ). take (wordsFor k) ample) (sym (c7-count d)) ∙ ap (take n) (sym (bad c7 ample)) ∙ c7-records d in
-    let h : _≡_ {A = ℕ} 0xEEEEE001 0x02030000 = ap (λ (l : List ℕ). getD l 0 0) e in
+    let h : _≡_ {A = ℕ} 0xEEEEE001 0 = ap (λ (l : List ℕ). getD l 0 0) e in
     omega arith
 
 -- by C9, whose first command has no fault

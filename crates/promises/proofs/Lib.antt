@@ -5,3 +5,4 @@ pub mod Files
 pub mod BadVersions
 pub mod Writer
 pub mod Choices
+pub mod Listings

@@ -6,3 +6,4 @@ pub mod Files
 pub mod Versions
 pub mod Writer
 pub mod Choices
+pub mod Listings

@@ -1,14 +1,14 @@
 -- How a run of the streamer comes out, computed: the words in which the examples of proofs/Examples are written. An example says whether the streamer
 -- ends, fails or goes on, after exactly which commands, which words each of these stored, and all that the run has changed.
 -- Assumes nothing.
-use Prim.Native.Nat.{ℕ, zero, suc, _+_}
+use Prim.Native.Nat.{ℕ, zero, suc, _+_, _*_, _^_}
 use mathlib.Core.Bool.{Bool, true, false, cond, _&&_}
 use mathlib.Core.List.{List, [], _∷_}
 use mathlib.Core.Option.{Option, some, none}
 use lib.ListN.{length, set}
 use lib.Dec.{eqb}
+use Rattle.rules.specs.declared.Command.{Command}
 use Rattle.rules.specs.Cases.{sameWords, namedIf}
-use Rattle.rules.specs.Records.{recordOf}
 use Rattle.rules.specs.Book.{book}
 use Rattle.replay.specs.Streamer.{Map, Machine, Step, goes, ends, fails, Hardware, step}
 use Rattle.replay.specs.Streamer.{fetched, fetchedWords, fetchedAddress, wordAt, placeOf, storeWords, setPairs, endBatch, startBatch, pipe, exec}
@@ -20,7 +20,7 @@ pub data Fate : Type 0 where
   Fails : Fate
   GoesOn : Fate
 
--- a command that was run: its record, and the addresses of the words that it stored
+-- a command that was run, in one word, and the addresses of the words that it stored
 pub record Ran : Type 0 where
   pub word : ℕ
   pub stored : List ℕ
@@ -97,12 +97,16 @@ sameMachine m n =
     (sameWords (m .batch) (n .batch) && sameWords (m .state) (n .state))
     && (sameWords (m .scratch) (n .scratch) && sameWords (looked (m .registers)) (looked (n .registers)))
 
--- the commands are those, with their records and their stores
+-- a command in one word, so that a table can name it: as document 01's record has its index, level, length and row
+abbrev inOneWord : Command → ℕ
+inOneWord c = c .index + 2 ^ 12 * c .level + 2 ^ 16 * c .length + 2 ^ 24 * c .row
+
+-- the commands are those, with their stores
 abbrev sameRan : List Ran → List Moment → Bool
 sameRan [] [] = true
 sameRan [] (x ∷ xs) = false
 sameRan (r ∷ rs) [] = false
-sameRan (r ∷ rs) (x ∷ xs) = (eqb (recordOf (x .command)) (r .word) && sameWords (x .stored) (r .stored)) && sameRan rs xs
+sameRan (r ∷ rs) (x ∷ xs) = (eqb (inOneWord (x .command)) (r .word) && sameWords (x .stored) (r .stored)) && sameRan rs xs
 
 -- what becomes of the streamer in so many commands, step by step
 pub record Outcome : Type 0 where

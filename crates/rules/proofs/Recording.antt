@@ -3,7 +3,7 @@
 use Prim.Native.Nat.{ℕ, zero, suc, _+_, _*_, _/_, _%_, _^_, _≤_, _<_}
 use native.Mathlib.Nat.{div-add-mod', mul-le-mul-right}
 use native.Mathlib.Omega.{arith}
-use mathlib.Core.Path.{_≡_, refl, ap₂}
+use mathlib.Core.Path.{_≡_, refl, ap, ap₂}
 use mathlib.Core.Bool.{Bool, true, false, cond, _&&_}
 use mathlib.Core.List.{List, [], _∷_}
 use lib.ListN.{length}
@@ -25,7 +25,8 @@ use Rattle.rules.specs.Windows.{Capture, windowLimit, lengthsOf, windowF
 use Rattle.rules.specs.Commands.{Length, noField, exactly, byBit, groups, rows, rowCount, theRow, dwordCount, fieldRight, lengthOf, groupSize, lengthRight}
 use Rattle.rules.specs.Step.{budget, levelNumber, commandAt, stepOf}
 use Rattle.rules.specs.Walk.{trace, cut, start, walk, commandsOf}
-use Rattle.rules.specs.Records.{Recordable, recordOf, commandOf, wordsOf, commandsIn}
+use Rattle.rules.specs.Listings.{oldCommandOf, oldCommandsIn}
+use Rattle.rules.specs.Records.{Recordable, firstWord, secondWord, commandOf, wordsOf, commandsIn}
 use Rattle.rules.proofs.Searching.{and-left, and-right}
 use Rattle.rules.proofs.Tables.{each, at-each}
 use Rattle.rules.proofs.Stepping.{passed, took}
@@ -92,43 +93,37 @@ fits-record c s l e =
       row = omega arith;
     })
 
--- the fields of a record, one after the other
-module _ (i l n r : ℕ) (hi : i < 2 ^ 12) (hl : l < 2) (hn : n < 256) (hr : r < 256) where
-  word : ℕ
-  word = i + 2 ^ 12 * l + 2 ^ 16 * n + 2 ^ 24 * r
+-- the fields of a record's words, one after the other
+module _ (i l : ℕ) (hi : i < 2 ^ 16) (hl : l < 2) where
+  index-field : field (i + 2 ^ 16 * l) 15 0 ≡ i
+  index-field = omega arith
 
-  index-field : field word 11 0 ≡ i
-  unfolding word
-  index-field = let e : word / 1 ≡ i + 4096 * (l + 16 * n + 4096 * r) = omega arith in rw e (omega arith)
+  level-field : field (i + 2 ^ 16 * l) 16 16 ≡ l
+  level-field = omega arith
 
-  level-field : field word 12 12 ≡ l
-  unfolding word
-  level-field = let e : word / 4096 ≡ l + 2 * (8 * n + 2048 * r) = omega arith in rw e (omega arith)
+module _ (n r : ℕ) (hn : n < 256) (hr : r < 256) where
+  length-field : field (2 ^ 16 * n + 2 ^ 24 * r) 23 16 ≡ n
+  length-field = let e : (2 ^ 16 * n + 2 ^ 24 * r) / 65536 ≡ n + 256 * r = omega arith in rw e (omega arith)
 
-  length-field : field word 23 16 ≡ n
-  unfolding word
-  length-field = let e : word / 65536 ≡ n + 256 * r = omega arith in rw e (omega arith)
-
-  row-field : field word 31 24 ≡ r
-  unfolding word
-  row-field = let e : word / 16777216 ≡ r = omega arith in rw e (omega arith)
+  row-field : field (2 ^ 16 * n + 2 ^ 24 * r) 31 24 ≡ r
+  row-field = let e : (2 ^ 16 * n + 2 ^ 24 * r) / 16777216 ≡ r = omega arith in rw e (omega arith)
 
 -- and is read back from it
-pub reads-back : (k : Command) → Recordable k → commandOf (recordOf k) ≡ k
-unfolding commandOf recordOf word
+pub reads-back : (k : Command) → Recordable k → commandOf (firstWord k) (secondWord k) ≡ k
+unfolding commandOf firstWord secondWord
 reads-back k r =
-    let p = index-field (k .index) (k .level) (k .length) (k .row) (r .index) (r .level) (r .length) (r .row) in
-    let q = level-field (k .index) (k .level) (k .length) (k .row) (r .index) (r .level) (r .length) (r .row) in
-    let s = row-field (k .index) (k .level) (k .length) (k .row) (r .index) (r .level) (r .length) (r .row) in
-    let t = length-field (k .index) (k .level) (k .length) (k .row) (r .index) (r .level) (r .length) (r .row) in
+    let p = index-field (k .index) (k .level) (r .index) (r .level) in
+    let q = level-field (k .index) (k .level) (r .index) (r .level) in
+    let s = row-field (k .length) (k .row) (r .length) (r .row) in
+    let t = length-field (k .length) (k .row) (r .length) (r .row) in
     λ i. record { index = p i; level = q i; row = s i; length = t i }
 
 -- a list of commands that fit is read back from its words
-abbrev AllRecordable : List Command → Type 0
+abbrev pub AllRecordable : List Command → Type 0
 AllRecordable [] = Unit {0}
 AllRecordable (k ∷ ks) = Recordable k × AllRecordable ks
 
-all-read-back : (ks : List Command) → AllRecordable ks → commandsIn (wordsOf ks) ≡ ks
+pub all-read-back : (ks : List Command) → AllRecordable ks → commandsIn (wordsOf ks) ≡ ks
 unfolding wordsOf commandsIn
 all-read-back [] p = refl
 all-read-back (k ∷ ks) p = ap₂ (λ (j : Command) (js : List Command). j ∷ js) (reads-back k (p .0)) (all-read-back ks (p .1))
@@ -154,3 +149,19 @@ walk-read-back base c room = by (windowFault (lengthsOf c)) refl
         → commandsIn (wordsOf (commandsOf (walk base c room))) ≡ commandsOf (walk base c room)
     by Pass e = rw (walk-sound base c room e) (all-read-back _ (run-fits budget room c (start base) (stepOf c (start base)) (counted (lengthsOf c) e .batch) refl))
     by (Fails f) e = rw (walk-unsound base c room e)
+
+-- every command that an old listing names fits a record
+old-recordable : (words : List ℕ) → AllRecordable (oldCommandsIn words)
+unfolding oldCommandOf oldCommandsIn
+old-recordable [] = tt
+old-recordable (w ∷ ws) = (record { index = omega arith; level = omega arith; length = omega arith; row = omega arith }, old-recordable ws)
+
+-- and there are as many as the listing has words
+pub old-counted : (words : List ℕ) → length (oldCommandsIn words) ≡ length words
+unfolding oldCommandsIn
+old-counted [] = refl
+old-counted (w ∷ ws) = ap suc (old-counted ws)
+
+-- A TURNED LISTING NAMES THE SAME COMMANDS
+pub turned-read-back : (old : List ℕ) → commandsIn (wordsOf (oldCommandsIn old)) ≡ oldCommandsIn old
+turned-read-back old = all-read-back (oldCommandsIn old) (old-recordable old)

@@ -25,10 +25,10 @@ pointing offset = 0x78230000 ∷ offset ∷ 0x05000000 ∷ []
 -- "none" it is 14. 3: nothing lies behind it. 4: a base that the batch sets goes before the one at the start.
 unfoldable pub cutCases : List Case
 cutCases =
-    byDefault (case 1 (pointing 0) ample 0 0 2 (0x0E020000 ∷ 0x01010002 ∷ []))
+    byDefault (case 1 (pointing 0) ample 0 0 2 (0x00000000 ∷ 0x0E020000 ∷ 0x00000002 ∷ 0x01010000 ∷ []))
     ∷ case 2 (pointing 0) ample 14 1 0 []
     ∷ byDefault (case 3 (pointing 0x20) ample 15 1 0 [])
-    ∷ byDefault (case 4 (based 0x00000001 0 (pointing 0)) ample 15 17 1 (0x09100000 ∷ []))
+    ∷ byDefault (case 4 (based 0x00000001 0 (pointing 0)) ample 15 17 1 (0x00000000 ∷ 0x09100000 ∷ []))
     ∷ []
 
 pub cut-cases-hold : failingIn (withState depthRange 0x200000) cutCases ≡ []
@@ -45,7 +45,7 @@ high-cases-hold = refl
 
 -- an empty state window at the batch's own address: the structure is found in the batch, at its dword 8
 unfoldable pub sharedCases : List Case
-sharedCases = byDefault (case 1 (pointing 0x20 ++ (replicate 5 0 ++ depthRange)) ample 0 0 2 (0x0E020000 ∷ 0x01010002 ∷ [])) ∷ []
+sharedCases = byDefault (case 1 (pointing 0x20 ++ (replicate 5 0 ++ depthRange)) ample 0 0 2 (0x00000000 ∷ 0x0E020000 ∷ 0x00000002 ∷ 0x01010000 ∷ [])) ∷ []
 
 pub shared-cases-hold : failingIn (withState [] 0x100000) sharedCases ≡ []
 unfolding sharedCases book

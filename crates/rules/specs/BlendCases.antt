@@ -21,10 +21,10 @@ six rest = 0xFFF80000 ∷ (entry ++ (entry ++ (entry ++ (entry ++ (entry ++ (ent
 
 -- what was recorded of the first command, and of all three
 abbrev pub first : List ℕ
-first = 0x09100000 ∷ []
+first = 0x00000000 ∷ 0x09100000 ∷ []
 
 abbrev pub allThree : List ℕ
-allThree = 0x09100000 ∷ 0x11020010 ∷ 0x01010012 ∷ []
+allThree = 0x00000000 ∷ 0x09100000 ∷ 0x00000010 ∷ 0x11020000 ∷ 0x00000012 ∷ 0x01010000 ∷ []
 
 -- eight entries that blend; the same codes, 0 among the factors, with blending off; 17 at the eighth entry; 16 at its second dword, which goes before
 -- the 17 of the seventh entry

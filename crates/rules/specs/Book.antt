@@ -15,7 +15,7 @@ use Rattle.rules.specs.Structures.{entryWrong, blendWrong, structureNowh
 use Rattle.rules.specs.Step.{dwordsAt, pointerOf, budgetSpent, ranOff, unknownHeader, wrongLength, pastTheWindow, bitNotAllowed, nestedStart, valueBroken}
 use Rattle.rules.specs.Step.{rangeOutside, baseNeverSet, recordsFull, stepChecks, checks, afterEnd, baseAfter, moveOf, commandAt, stepOf}
 use Rattle.rules.specs.Walk.{trace, cut, walk, commandsOf, endOf, answerOf}
-use Rattle.rules.specs.Records.{recordOf, commandOf, wordsOf, commandsIn, wordsFor, roomOf, writtenOf}
+use Rattle.rules.specs.Records.{firstWord, secondWord, commandOf, wordsOf, commandsIn, wordsFor, roomOf, writtenOf}
 
 -- no sentences of their own: the pages of document 01 up to "Capture file and printout", for whoever computes
 unfoldable pub windowsPage : ℕ
@@ -47,7 +47,7 @@ unfolding stepChecks checks afterEnd baseAfter moveOf commandAt stepOf trace cut
 walkPage = 0
 
 unfoldable pub recordsPage : ℕ
-unfolding recordOf commandOf wordsOf commandsIn wordsFor roomOf writtenOf
+unfolding firstWord secondWord commandOf wordsOf commandsIn wordsFor roomOf writtenOf
 recordsPage = 0
 
 -- all of them

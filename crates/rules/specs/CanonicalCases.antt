@@ -25,14 +25,14 @@ based low high rest = 0x6101000E ∷ 0 ∷ 0 ∷ 0 ∷ 0 ∷ 0 ∷ low ∷ high 
 -- page as base, and a pointer that leads past 2^48.
 unfoldable pub canonicalCases : List Case
 canonicalCases =
-    case 1 (storing 0xFFFF8000) ample 0 0 2 (0x04040000 ∷ 0x01010004 ∷ [])
+    case 1 (storing 0xFFFF8000) ample 0 0 2 (0x00000000 ∷ 0x04040000 ∷ 0x00000004 ∷ 0x01010000 ∷ [])
     ∷ case 2 (storing 0x00008000) ample 12 2 0 []
     ∷ case 3 (storing 0x00018000) ample 12 2 0 []
     ∷ case 4 (0x780A0003 ∷ 0 ∷ 0 ∷ 0x00010000 ∷ 0 ∷ []) ample 10 3 0 []
     ∷ case 5 (0x78080007 ∷ 0x00004000 ∷ 0 ∷ 0x00008000 ∷ 4 ∷ 0x00008000 ∷ 0 ∷ 0 ∷ 0 ∷ []) ample 10 5 0 []
-    ∷ case 6 (based 0 0x00008000 (0x05000000 ∷ [])) ample 0 0 2 (0x09100000 ∷ 0x01010010 ∷ [])
+    ∷ case 6 (based 0 0x00008000 (0x05000000 ∷ [])) ample 0 0 2 (0x00000000 ∷ 0x09100000 ∷ 0x00000010 ∷ 0x01010000 ∷ [])
     ∷ case 7 (based 1 0x00008000 (0x05000000 ∷ [])) ample 12 7 0 []
-    ∷ case 8 (based 0xFFFFF001 0xFFFFFFFF (0x78230000 ∷ 0x00002000 ∷ [])) ample 15 17 1 (0x09100000 ∷ [])
+    ∷ case 8 (based 0xFFFFF001 0xFFFFFFFF (0x78230000 ∷ 0x00002000 ∷ [])) ample 15 17 1 (0x00000000 ∷ 0x09100000 ∷ [])
     ∷ []
 
 -- "From now on the high dword of every address that is used must be canonical, and the address is its low 48 bits"

@@ -10,7 +10,7 @@ use Rattle.rules.specs.declared.BaseChoice.{BaseChoice}
 use Rattle.rules.specs.declared.BaseChoice.the-variants.{StateWindow, NoBase}
 use Rattle.rules.specs.Windows.{Capture}
 use Rattle.rules.specs.Walk.{Run, walk, startingBase, answerOf}
-use Rattle.rules.specs.Records.{writtenOf, roomOf}
+use Rattle.rules.specs.Records.{wordsFor, writtenOf, roomOf}
 use Rattle.rules.specs.Book.{book}
 
 -- the table of "Cases": the number, the base that its walk starts with, "Batch", what the record buffer held, and "Answer" with its records
@@ -30,13 +30,13 @@ abbrev pub caseCapture : List ℕ → Capture
 caseCapture batch =
     record { batch = batch; batchAt = 0x100000; state = []; stateAt = 0x200000; scratchAt = 0x300000; scratchBytes = 4096 }
 
--- "ample room": eight words, each unlike any record and unlike the others, so that a word that should stay is seen to
-abbrev pub ample : List ℕ
-ample = 0xEEEEE001 ∷ 0xEEEEE002 ∷ 0xEEEEE003 ∷ 0xEEEEE004 ∷ 0xEEEEE005 ∷ 0xEEEEE006 ∷ 0xEEEEE007 ∷ 0xEEEEE008 ∷ []
+-- "room 4", which request 7 counts in whole records: eight words, each unlike any record and unlike the others, so that a word that should stay is seen to
+abbrev pub fourRecords : List ℕ
+fourRecords = 0xEEEEE001 ∷ 0xEEEEE002 ∷ 0xEEEEE003 ∷ 0xEEEEE004 ∷ 0xEEEEE005 ∷ 0xEEEEE006 ∷ 0xEEEEE007 ∷ 0xEEEEE008 ∷ []
 
--- "room 4"
-abbrev pub fourWords : List ℕ
-fourWords = 0xEEEEE001 ∷ 0xEEEEE002 ∷ 0xEEEEE003 ∷ 0xEEEEE004 ∷ []
+-- "ample room": two more, and an odd last word
+abbrev pub ample : List ℕ
+ample = fourRecords ++ (0xEEEEE009 ∷ 0xEEEEE00A ∷ 0xEEEEE00B ∷ [])
 
 -- a line of the table, "C", "Batch", "Answer"; every case has its place in window 0. Request 5: "Case C11 is read under "none"", and so is each that
 -- does not say otherwise
@@ -63,14 +63,14 @@ byDefault k = record {
 unfoldable pub cases : List Case
 cases =
     case 1 [] ample 1 0 0 []
-    ∷ case 2 (0x05000000 ∷ []) ample 0 0 1 (0x01010000 ∷ [])
-    ∷ case 3 (0x00000000 ∷ []) ample 6 1 1 (0x00010000 ∷ [])
+    ∷ case 2 (0x05000000 ∷ []) ample 0 0 1 (0x00000000 ∷ 0x01010000 ∷ [])
+    ∷ case 3 (0x00000000 ∷ []) ample 6 1 1 (0x00000000 ∷ 0x00010000 ∷ [])
     ∷ case 4 (0x05000001 ∷ []) ample 10 0 0 []
     ∷ case 5 (0x40000000 ∷ []) ample 7 0 0 []
-    ∷ case 6 (0x18800101 ∷ 0x00100000 ∷ 0 ∷ []) fourWords 18 0 4 (0x02030000 ∷ 0x02030000 ∷ 0x02030000 ∷ 0x02030000 ∷ [])
-    ∷ case 7 (0x18C00101 ∷ 0x00100010 ∷ 0 ∷ 0x05000000 ∷ 0x05000000 ∷ []) ample 0 0 3 (0x02030000 ∷ 0x01011004 ∷ 0x01010003 ∷ [])
-    ∷ case 8 (0x10000002 ∷ 0x00300FFC ∷ 0 ∷ 0 ∷ 0x05000000 ∷ []) ample 0 0 2 (0x04040000 ∷ 0x01010004 ∷ [])
-    ∷ case 9 (0x00000000 ∷ 0x10000002 ∷ 0x00301000 ∷ 0 ∷ 0 ∷ 0x05000000 ∷ []) ample 13 2 1 (0x00010000 ∷ [])
+    ∷ case 6 (0x18800101 ∷ 0x00100000 ∷ 0 ∷ []) fourRecords 18 0 4 (0x00000000 ∷ 0x02030000 ∷ 0x00000000 ∷ 0x02030000 ∷ 0x00000000 ∷ 0x02030000 ∷ 0x00000000 ∷ 0x02030000 ∷ [])
+    ∷ case 7 (0x18C00101 ∷ 0x00100010 ∷ 0 ∷ 0x05000000 ∷ 0x05000000 ∷ []) ample 0 0 3 (0x00000000 ∷ 0x02030000 ∷ 0x00010004 ∷ 0x01010000 ∷ 0x00000003 ∷ 0x01010000 ∷ [])
+    ∷ case 8 (0x10000002 ∷ 0x00300FFC ∷ 0 ∷ 0 ∷ 0x05000000 ∷ []) ample 0 0 2 (0x00000000 ∷ 0x04040000 ∷ 0x00000004 ∷ 0x01010000 ∷ [])
+    ∷ case 9 (0x00000000 ∷ 0x10000002 ∷ 0x00301000 ∷ 0 ∷ 0 ∷ 0x05000000 ∷ []) ample 13 2 1 (0x00000000 ∷ 0x00010000 ∷ [])
     ∷ case 10 (0x10200003 ∷ 0x00300FFC ∷ 0 ∷ 0 ∷ 0 ∷ []) ample 12 1 0 []
     ∷ case 11 (0x78230000 ∷ 0 ∷ []) ample 14 1 0 []
     ∷ byDefault (case 11 (0x78230000 ∷ 0 ∷ []) ample 15 1 0 [])
@@ -90,7 +90,7 @@ sameAnswer a k = (eqb (a .reason) (k .reason) && eqb (a .window) (k .window)) &&
 
 -- "Each public call is promised completely: answer, records and every untouched word": the walk gives the case all of it
 abbrev pub gives : Run → Case → Bool
-gives run k = sameAnswer (answerOf run) k && sameWords (writtenOf run (k .before)) (k .records ++ drop (k .count) (k .before))
+gives run k = sameAnswer (answerOf run) k && sameWords (writtenOf run (k .before)) (k .records ++ drop (wordsFor (k .count)) (k .before))
 
 -- "ample room unless said": the walk of a case, in these windows
 abbrev pub runIn : (List ℕ → Capture) → Case → Run

@@ -12,6 +12,7 @@ pub mod Step
 pub mod Walk
 pub mod Records
 pub mod Writer
+pub mod Listings
 pub mod File
 pub mod Printout
 pub mod Book

@@ -38,9 +38,9 @@ answerLine a =
 unfoldable pub commandLine : Command → List ℕ
 commandLine c = decimal (c .index) ++ (bytes " " ++ (decimal (c .level) ++ (bytes " " ++ (decimal (c .row) ++ (bytes " " ++ (decimal (c .length) ++ bytes "\n"))))))
 
--- "index, level, row and length per record": the line of one
-abbrev pub recordLine : ℕ → List ℕ
-recordLine word = commandLine (commandOf word)
+-- "index, level, row and length per record": the line of one, by its two words
+abbrev pub recordLine : ℕ → ℕ → List ℕ
+recordLine first second = commandLine (commandOf first second)
 
 -- "per record": a line for each
 unfoldable pub commandLines : List Command → List ℕ
@@ -51,11 +51,11 @@ commandLines (c ∷ cs) = commandLine c ++ commandLines cs
 unfoldable pub printout : Answer → List ℕ → List ℕ
 printout answer records = answerLine answer ++ commandLines (commandsIn records)
 
--- "The program lends 4,096 record words"
+-- Request 7: "the file program keeps 4,096 and lends 8,192 record words"
 abbrev pub recordWords : ℕ
-recordWords = 4096
+recordWords = 8192
 
--- "The program lends 4,096 record words and prints": what it prints for a file; the two word buffers hold the largest windows. Request 5: "The drill
+-- "The program lends .. record words and prints": what it prints for a file; the two word buffers hold the largest windows. Request 5: "The drill
 -- program and the printout relied on 14 to spot captures cut too late: both now ask for "none" by name and keep their old answers"
 unfoldable pub printed : BaseChoice → List ℕ → List ℕ
 printed choice file =

@@ -1,4 +1,4 @@
--- Document 01, the records: "A record is one word: index in bits 11:0, level in bit 12, total length in 23:16, table row in 31:24, others zero."
+-- Document 01, the records, as request 7 has them: "An index no longer fits the one-word record, so the new record has two words".
 use Prim.Native.Nat.{ℕ, _+_, _*_, _/_, _^_, _<_}
 use mathlib.Core.Path.{_≡_}
 use mathlib.Core.List.{List, [], _∷_, _++_}
@@ -11,17 +11,22 @@ use Rattle.rules.specs.Words.{field}
 use Rattle.rules.specs.Windows.{Capture}
 use Rattle.rules.specs.Walk.{Run, walk, startingBase, commandsOf, answerOf}
 
--- "A record is one word: ..": a command's record
-unfoldable pub recordOf : Command → ℕ
-recordOf c = c .index + 2 ^ 12 * c .level + 2 ^ 16 * c .length + 2 ^ 24 * c .row
+-- Request 7: "the new record has two words: index and level (bit 16) in the first"
+unfoldable pub firstWord : Command → ℕ
+firstWord c = c .index + 2 ^ 16 * c .level
 
--- "index, level, row and length per record": what a record says
-unfoldable pub commandOf : ℕ → Command
-commandOf w = record { index = field w 11 0; level = field w 12 12; row = field w 31 24; length = field w 23 16 }
+-- "length and row in their old bits of the second": "total length in 23:16, table row in 31:24, others zero"
+unfoldable pub secondWord : Command → ℕ
+secondWord c = 2 ^ 16 * c .length + 2 ^ 24 * c .row
 
--- "bits 11:0", "bit 12", "23:16", "31:24": a command whose numbers fit their bits
+-- "index, level, row and length per record": what a record of two words says
+unfoldable pub commandOf : ℕ → ℕ → Command
+commandOf first second =
+    record { index = field first 15 0; level = field first 16 16; row = field second 31 24; length = field second 23 16 }
+
+-- a command whose numbers fit their bits: "index and level (bit 16) in the first, length and row in their old bits of the second"
 pub record Recordable (c : Command) : Type 0 where
-  pub index : c .index < 2 ^ 12
+  pub index : c .index < 2 ^ 16
   pub level : c .level < 2
   pub length : c .length < 2 ^ 8
   pub row : c .row < 2 ^ 8
@@ -29,18 +34,19 @@ pub record Recordable (c : Command) : Type 0 where
 -- "that many records are written": the words of a list of commands
 unfoldable pub wordsOf : List Command → List ℕ
 wordsOf [] = []
-wordsOf (c ∷ cs) = recordOf c ∷ wordsOf cs
+wordsOf (c ∷ cs) = firstWord c ∷ secondWord c ∷ wordsOf cs
 
--- "index, level, row and length per record": the commands that words of records name
+-- "index, level, row and length per record": the commands that words of records name; an odd last word is no record
 unfoldable pub commandsIn : List ℕ → List Command
 commandsIn [] = []
-commandsIn (w ∷ ws) = commandOf w ∷ commandsIn ws
+commandsIn (first ∷ []) = []
+commandsIn (first ∷ second ∷ words) = commandOf first second ∷ commandsIn words
 
--- "A record is one word": how many words so many records take
+-- "the new record has two words": how many words so many records take
 unfoldable pub wordsFor : ℕ → ℕ
-wordsFor records = records
+wordsFor records = 2 * records
 
--- "record buffer full": how many records so many words have room for
+-- "Room counts whole records": how many records so many words have room for; 18 is "when two words are not free"
 unfoldable pub roomOf : ℕ → ℕ
 roomOf words = words / wordsFor 1
 

@@ -25,9 +25,9 @@ pub record Capture : Type 0 where
   pub scratchAt : ℕ
   pub scratchBytes : ℕ
 
--- "1 to 4,096 dwords", "0 to 4,096 dwords"
+-- "1 to 4,096 dwords", "0 to 4,096 dwords". Request 7: "Raise the batch and state limit of the library from 4,096 to 65,536 dwords, over lent memory"
 abbrev pub windowLimit : ℕ
-windowLimit = 4096
+windowLimit = 65536
 
 -- "known only by address and byte length"
 abbrev pub window : ℕ → ℕ → Window
@@ -53,7 +53,8 @@ listed w = w .batch ∷ w .state ∷ w .scratch ∷ []
 abbrev pub end : Window → ℕ
 end w = w .at + w .bytes
 
--- 1: "batch count 0 or over 4,096, or state count over 4,096"
+-- 1: "batch count 0 or over 4,096, or state count over 4,096", by the limit that is given. Request 7: "1 reads with the new limit, save in the capture file's
+-- reader, where it keeps 4,096 for both counts"
 unfoldable pub countsWrong : ℕ → ℕ → ℕ → Bool
 countsWrong limit batch state = eqb batch 0 || (ltb limit batch || ltb limit state)
 

@@ -50,6 +50,15 @@ pub struct Answer {
     pub count: u32,
 }
 
+// The answer to a listing that is turned (request 7), which may have more than 2^32 words.
+#[repr(C)]
+pub struct LongAnswer {
+    pub reason: u32,
+    pub window: u32,
+    pub index: u64,
+    pub count: u64,
+}
+
 // A window: its address, and its length in bytes.
 pub struct Window {
     pub at: u64,

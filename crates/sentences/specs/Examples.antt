@@ -46,7 +46,7 @@ pub a-line-at-the-end : refusedLine (bytes "a.capture") (record { reason = 6; wi
 unfolding digitsOf wordsIn reasonTable commandsText placeText progressText detailText refusedLine refusedWords
 a-line-at-the-end = refl
 
--- number 18: the program lends 4,096 record words
+-- number 18: the program has room for 4,096 records
 pub a-line-of-a-loop : refusedLine (bytes "a.capture") (record { reason = 18; window = 0; index = 0; count = 4096 }) 0x18800101 NoMore ≡
     bytes "a.capture: refused, 18 at batch dword 0 (18800101h) after 4096 commands: the run has not ended after 4,096 commands\n"
 unfolding digitsOf hexDigit hexDigits wordsIn reasonTable commandsText windowText dwordText placeText progressText refusedLine refusedWords detailText

@@ -1,16 +1,17 @@
 -- The loop of `run`: the commands done, their words in the record buffer, and what the walk has still to give.
 -- Assumes nothing.
-use Prim.Native.Nat.{ℕ, suc, _+_, _-_, _^_, _≤_, _<_}
-use native.Mathlib.Nat.{add-zero, sub-zero}
+use Prim.Native.Nat.{ℕ, suc, _+_, _-_, _*_, _^_, _≤_, _<_}
+use native.Mathlib.Nat.{sub-zero}
 use native.Mathlib.Omega.{arith}
 use mathlib.Core.Path.{_≡_, refl, sym, ap, _∙_, subst}
 use mathlib.Core.Bool.{Bool, true, false, cond, _&&_}
 use mathlib.Core.List.{List, [], _∷_, _++_, append-nil}
 use mathlib.Core.Logic.{⊎-elim}
-use lib.ListN.{length, getD, drop, set, length-append}
+use lib.ListN.{length, getD, take, drop, set, length-append, take-append-drop}
+use lib.Seq.{drop-drop}
 use lib.Dec.{lit<, eqb}
 use borrow.Author.Tests.{eqb-true, eqb-false}
-use borrow.Rule.Slice.PartMut.{putMid, midOf, mid-len, set-mid-at}
+use borrow.Rule.Slice.PartMut.{putMid, midOf, postOf, mid-len}
 use Rattle.rules.specs.declared.Windows.{Windows}
 use Rattle.rules.specs.declared.Answer.{Answer}
 use Rattle.rules.specs.declared.Base.{Base}
@@ -33,9 +34,9 @@ use Rattle.rules.specs.Windows.{Capture, windowsOf, lengthsOf, windowFault, win
 use Rattle.rules.specs.Commands.{baseRow}
 use Rattle.rules.specs.Step.{budget, spentAt, fullAt, newBase, baseAfter, levelNumber, commandAt, stepOf}
 use Rattle.rules.specs.Walk.{Run, ended, then, trace, traceFrom, cut, start, startingBase, commandsOf, endOf, answerOf}
-use Rattle.rules.specs.Records.{recordOf, wordsOf, wordsFor, roomOf, writtenOf, Checked}
+use Rattle.rules.specs.Records.{firstWord, secondWord, wordsOf, wordsFor, roomOf, writtenOf, Checked}
 use Rattle.rules.proofs.Searching.{never-both}
-use Rattle.rules.proofs.Listing.{words-counted, no-words, withRecord, record-added, with-record-long, room-is, record-put}
+use Rattle.rules.proofs.Listing.{words-counted, no-words, withRecord, record-added, with-record-long, room-is, two-set, record-put}
 use Rattle.rules.proofs.Running.{follow, commands-follow, end-follows}
 use Rattle.rules.proofs.Stepping.{took}
 use Rattle.rules.proofs.Walking.{walk-sound, walk-unsound}
@@ -201,17 +202,37 @@ module _ {base : Base} {c : Capture} {old new : List ℕ} {n : ℕ} {s : Cursor}
   pub none-left-there : n ≡ room → n < budget → roomOf (length old) ≤ n
   none-left-there e h = let z = m .2 (omega arith) in omega arith
 
-  pub some-left : n ≤ room → (n ≡ room → ⊥) → (n < budget) × (n < roomOf (length old)) × (n < length new) × (n < room)
+  pub some-left : n ≤ room → (n ≡ room → ⊥) → (n < budget) × (n < roomOf (length old)) × (n < roomOf (length new)) × (n < room)
   some-left l e =
       let z : n < room = omega arith in
-      (omega (arith, m .1), omega (arith, m .0), omega (arith, m .0, g .same, room-is (length old)), z)
+      let there : n < roomOf (length old) = omega (arith, m .0) in
+      (omega (arith, m .1), there, rw (g .same) there, z)
 
--- a write to the first word of the tail from n on is the record of one command more, behind n
-pub tail-written : (n : ℕ) (k : Command) (l : List ℕ) → n < length l
-    → putMid n (length l - n) l (set (midOf n (length l - n) l) 0 (recordOf k)) ≡ withRecord l n k
+-- two words set at the front of a list, where it has two
+front-set : (l : List ℕ) (first second : ℕ) → 1 < length l → set (set l 0 first) 1 second ≡ first ∷ second ∷ drop 2 l
+front-set [] first second h = absurd (omega arith)
+front-set (x ∷ []) first second h = absurd (omega arith)
+front-set (x ∷ y ∷ l) first second h = refl
+
+two-behind : (l more : List ℕ) → 1 < length l → drop 2 l ++ more ≡ drop 2 (l ++ more)
+two-behind [] more h = absurd (omega arith)
+two-behind (x ∷ []) more h = absurd (omega arith)
+two-behind (x ∷ y ∷ l) more h = refl
+
+-- a write to the first two words of the tail behind n records is the record of one command more
+pub tail-written : (n : ℕ) (k : Command) (l : List ℕ) → n < roomOf (length l)
+    → putMid (2 * n) (length l - 2 * n) l (set (set (midOf (2 * n) (length l - 2 * n) l) 0 (firstWord k)) 1 (secondWord k)) ≡ withRecord l n k
 tail-written n k l h =
-    let z : 0 < length (midOf n (length l - n) l) = simp (mid-len n (length l) l (omega arith)) (omega arith) in
-    rw (set-mid-at n (length l - n) 0 l (recordOf k) z, add-zero) (record-put l n k (omega (arith, room-is (length l))))
+    let m = 2 * n in
+    let there : m + 1 < length l = omega (arith, room-is (length l)) in
+    let mid = midOf m (length l - m) l in
+    let post = postOf m (length l - m) l in
+    let long : 1 < length mid = simp (mid-len m (length l) l (omega arith)) (omega arith) in
+    let front = front-set mid (firstWord k) (secondWord k) long in
+    let behind : drop 2 mid ++ post ≡ drop (m + 2) l =
+    two-behind mid post long ∙ ap (drop 2) (take-append-drop (length l - m) (drop m l)) ∙ drop-drop 2 m l in
+    ap (λ (ws : List ℕ). take m l ++ (ws ++ post)) front ∙ ap (λ (ws : List ℕ). take m l ++ (firstWord k ∷ secondWord k ∷ ws)) behind
+    ∙ sym (two-set l m (firstWord k) (secondWord k) there) ∙ record-put l n k h
 
 -- the places that are answered fit 32 bits
 module _ {base : Base} {c : Capture} {old new : List ℕ} {n : ℕ} {s : Cursor} (g : Going base c old new n s) where

@@ -13,7 +13,8 @@ ghost use Rattle.step.specs.Parts.{captured, Fitted, SmallBase};
 ghost use Rattle.walk.specs.Lent.{lentCapture, stopFor, Ran};
 use answers::acceptance;
 use answers::refusal;
-use records::record_of;
+use records::first_word;
+use records::second_word;
 use records::write_record;
 use rows::mask_table;
 use rules::After;
@@ -68,11 +69,13 @@ fn run<'a>(
                 }
                 match after {
                     After::Ends => {
-                        write_record(&mut records[n..], record_of(turn.level, command));
+                        let first = first_word(turn.level, command);
+                        write_record(&mut records[2 * n..], first, second_word(command));
                         return acceptance(n + 1);
                     }
                     After::To(t) => {
-                        write_record(&mut records[n..], record_of(turn.level, command));
+                        let first = first_word(turn.level, command);
+                        write_record(&mut records[2 * n..], first, second_word(command));
                         n += 1;
                         turn = turn_at(t);
                     }
@@ -93,11 +96,12 @@ fn started(base: Base) -> Cursor
     }
 }
 
-// How many commands can be recorded: as many as there is room for, and no more than the budget. So the walk tests one number for both.
+// How many commands can be recorded: as many as there is room for, of two words each, and no more than the budget. So the walk tests one number
+// for both.
 fn room_in(len: usize) -> usize
     ensures { λ r. ⌜ (r ≤ roomOf len) × (r ≤ budget) × (r < budget → r ≡ roomOf len) ⌝ }
 {
-    if len < BUDGET { len } else { BUDGET }
+    if len / 2 < BUDGET { len / 2 } else { BUDGET }
 }
 
 // The answer where the command at the position is not taken, for this fault: behind the last command of the budget it is the budget's.

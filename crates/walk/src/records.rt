@@ -1,22 +1,31 @@
-// The record of a command, and the word that it is written to.
+// The record of a command, and the two words that it is written to.
 ghost use mathlib.Core.Path.{_≡_};
 ghost use Prim.Native.Nat.{_<_};
 ghost use lib.ListN.{length, set};
-ghost use Rattle.rules.specs.Records.{Recordable, recordOf};
+ghost use Rattle.rules.specs.Records.{Recordable, firstWord, secondWord};
 use rules::Command;
 
-// The record of a command. Its level is given beside it, as the loop has it at hand.
-pub fn record_of(level: usize, c: Command) -> u32
+// The first word of a command's record: where it stands, and its level, which is given beside it, as the loop has it at hand.
+pub fn first_word(level: usize, c: Command) -> u32
     requires { ⌜ (Recordable c) × (level ≡ c .level) ⌝ }
-    ensures { λ r. ⌜ r ≡ recordOf c ⌝ }
+    ensures { λ r. ⌜ r ≡ firstWord c ⌝ }
 {
-    (c.index + 0x1000 * level + 0x1_0000 * c.length + 0x100_0000 * c.row) as u32
+    (c.index + 0x1_0000 * level) as u32
 }
 
-// Writes one record to the first word of what is left of the record buffer.
-pub fn write_record(tail: &mut [u32], word: u32)
-    requires { ⌜ 0 < length (now tail) ⌝ }
-    ensures { λ _. ⌜ now (tail .exit) ≡ set (now (tail .entry)) 0 word ⌝ }
+// The second: how long it is, and its row.
+pub fn second_word(c: Command) -> u32
+    requires { ⌜ Recordable c ⌝ }
+    ensures { λ r. ⌜ r ≡ secondWord c ⌝ }
 {
-    tail[0] = word;
+    (0x1_0000 * c.length + 0x100_0000 * c.row) as u32
+}
+
+// Writes one record to the first two words of what is left of the record buffer.
+pub fn write_record(tail: &mut [u32], first: u32, second: u32)
+    requires { ⌜ 1 < length (now tail) ⌝ }
+    ensures { λ _. ⌜ now (tail .exit) ≡ set (set (now (tail .entry)) 0 first) 1 second ⌝ }
+{
+    tail[0] = first;
+    tail[1] = second;
 }

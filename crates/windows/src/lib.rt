@@ -23,7 +23,7 @@ use rules::Within;
 use rules::faults::in_batch;
 
 // The most dwords that the batch or the state may have.
-const WINDOW_LIMIT: usize = 4096;
+const WINDOW_LIMIT: usize = 65536;
 
 // What every window's address is a multiple of.
 const PAGE_BYTES: u64 = 4096;

@@ -11,7 +11,7 @@ use Rattle.causes.proofs.behind.Tie as tie
 add-result : tie.Need-add-result
 add-result c =
     rw (c .before .command .ensures)
-    (omega (arith, record-index (c .before .before .args .word), record-length (c .before .before .args .word)))
+    (let a = c .before .before .args in omega (arith, record-index (a .first) (a .second), record-length (a .first) (a .second)))
 
 returns : tie.Need-returns
 returns c = rw (c .before .command .ensures)

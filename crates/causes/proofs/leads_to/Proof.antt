@@ -24,12 +24,12 @@ returns-2 c =
 add-dword : tie.Need-add-dword
 add-dword c =
     let said = c .before .before .before .before .before in
-    rw (said .command .ensures) (omega (arith, record-index (said .before .before .args .word)))
+    rw (said .command .ensures) (omega (arith, record-index (said .before .before .args .first) (said .before .before .args .second)))
 
 add-dword-2 : tie.Need-add-dword-2
 add-dword-2 c =
     let said = c .before .before .before .before .before .before .before in
-    rw (said .command .ensures) (omega (arith, record-index (said .before .before .args .word)))
+    rw (said .command .ensures) (omega (arith, record-index (said .before .before .args .first) (said .before .before .args .second)))
 
 returns-3 : tie.Need-returns-3
 unfolding leadsTo
@@ -47,7 +47,7 @@ returns-3 c =
       high .dword2 .ensures,
       low .dword .ensures,
       said,
-      address-behind (s .args .batch .now) (commandOf (s .args .word) .index),
+      address-behind (s .args .batch .now) (commandOf (s .args .first) (s .args .second) .index),
     ))
 
 pub leads-to-spec : {M : Type 1} → statement M

@@ -14,13 +14,15 @@ returns c = rw (c .if1 .taken)
 
 returns-2 : tie.Need-returns-2
 returns-2 c =
-    let kept = c .before .before in
-    let s = c .before .before .before .before .before .before in
+    let kept = c .before .before .before in
+    let s = kept .before .before .before .before in
     c .leads-to .ensures
     ∙ rw (kept .kept-after .ensures)
-    (stands-at-last (s .args .records .now) (s .args .batch .now) (s .args .batch-at) (s .args .count) (search needs) (search needs))
+    (stands-at-last (s .args .records .now) (s .args .batch .now) (s .args .batch-at) (s .args .count) (search needs) (s .pre))
 
 pub position-spec : {M : Type 1} → statement M
+unfolding wordsFor
 position-spec =
     tie.close
-    (tie.spec returns (λ c. search needs) (λ c κs. search needs) (λ c. search needs) (λ c. search needs) (λ c κs. search needs) returns-2)
+    (tie.spec returns (λ c. search needs) (λ c κs. search needs) (λ c. search needs) (λ c. search needs) (λ c. search needs) (λ c. search needs)
+    (λ c. search needs) (λ c. search needs) (λ c. search needs) (λ c κs. search needs) returns-2)

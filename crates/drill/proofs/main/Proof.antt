@@ -9,10 +9,10 @@ use Rattle.drill.proofs.main.Statement.{statement}
 use Rattle.drill.proofs.main.Tie as tie
 
 abbrev Inv-loop : tie.InvT-loop
-Inv-loop words₀ line₀ byte₀ i₀ words line byte i = 1 ≡ length byte
+Inv-loop words₀ records₀ twin₀ line₀ byte₀ i₀ words records twin line byte i = 1 ≡ length byte
 
 abbrev μ-loop : tie.MeasureT-loop
-μ-loop words₀ line₀ byte₀ i₀ words line byte i = 131072 - i
+μ-loop words₀ records₀ twin₀ line₀ byte₀ i₀ words records twin line byte i = 131072 - i
 
 pub main-spec : {M : Type 1} → statement M
 main-spec =

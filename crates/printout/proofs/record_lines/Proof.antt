@@ -1,7 +1,7 @@
 -- `printout::record_lines` meets its promise. The invariant, `Gathering`: the lines so far stand in the page, and how many are to come. The measure is
 -- the number of records that are left.
 -- Assumes nothing.
-use Prim.Native.Nat.{_+_, _-_, _≤_, _<_}
+use Prim.Native.Nat.{_+_, _-_, _/_, _≤_, _<_}
 use native.Mathlib.Omega.{arith}
 use lib.ListN.{length}
 use borrow.Author.Needs.{needs}
@@ -14,7 +14,7 @@ abbrev Inv-loop : tie.InvT-loop
 Inv-loop out₀ records lines₀ bytes₀ out lines bytes = Gathering records out₀ out lines bytes
 
 abbrev μ-loop : tie.MeasureT-loop
-μ-loop out₀ records lines₀ bytes₀ out lines bytes = length records - lines
+μ-loop out₀ records lines₀ bytes₀ out lines bytes = length records / 2 - lines
 
 loop-holds : tie.Need-loop-holds Inv-loop μ-loop
 loop-holds c = begins _ _
@@ -26,7 +26,7 @@ put-command-requires : tie.Need-put-command-requires Inv-loop μ-loop
 put-command-requires c κs = search needs
 
 abbrev turn : tie.After-put-command Inv-loop μ-loop → tie.At-loop Inv-loop μ-loop
-turn c = c .before .before .before .before .before .before
+turn c = c .before .before .before .before .before .before .before
 
 -- there was room for a line
 room-there : (c : tie.After-put-command Inv-loop μ-loop) → turn c .loop .bytes + 84 ≤ length (turn c .loop .out)
@@ -51,5 +51,8 @@ returns-2 c = all-told _ _ (c .before .loop .inv) (omega arith)
 pub record-lines-spec : {M : Type 1} → statement M
 record-lines-spec =
     tie.close
-    (tie.spec Inv-loop μ-loop loop-holds add-if1 (λ c. search needs) (λ c. search needs) (λ c κs. search needs) put-command-requires
+    (tie.spec Inv-loop μ-loop loop-holds add-if1
+    -- the two words of the record
+    (λ c. search needs) (λ c. search needs) (λ c. search needs) (λ c. search needs) (λ c. search needs) (λ c. search needs) (λ c. search needs)
+    (λ c κs. search needs) put-command-requires
     (λ c. search needs) (λ c. search needs) loop-again (λ c. c .before .before .loop .inv .same) returns (λ c. c .before .loop .inv .same) returns-2)

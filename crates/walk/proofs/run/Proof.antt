@@ -2,7 +2,7 @@
 -- and then what it has still to give from here; beside it, the level that the turn has is its cursor's. Each way out of a turn, and the
 -- turn itself, is a law of Looping. The measure is what is left of the room.
 -- Assumes nothing.
-use Prim.Native.Nat.{_-_, _≤_, _<_}
+use Prim.Native.Nat.{_+_, _-_, _*_, _≤_, _<_}
 use native.Mathlib.Omega.{arith}
 use mathlib.Core.Path.{_≡_, refl, sym, ap, _∙_}
 use lib.ListN.{length}
@@ -17,6 +17,7 @@ use Rattle.rules.specs.Windows.{Capture}
 use Rattle.rules.specs.Step.{budget, levelNumber, stepOf}
 use Rattle.rules.specs.Records.{Recordable, roomOf}
 use Rattle.rules.proofs.Recording.{fits-record}
+use Rattle.rules.proofs.Listing.{room-is}
 use Rattle.step.specs.Parts.{captured}
 use Rattle.walk.proofs.Looping.{Going, started, from-start, stops, refused, full, last, next, none-left-there, some-left, level-is}
 use Rattle.walk.proofs.Looping.{small-place, small-at, tail-written}
@@ -81,10 +82,14 @@ took-then c e = took c ∙ ap (Taken (c .command .given .0 .0)) e
 -- there is budget and room for one command more
 room-left : (c : tie.Else1 Inv-loop μ-loop)
     → (head c .loop .n < budget) × (head c .loop .n < roomOf (length (now (start (counted (head c)) .args .records))))
-    × (head c .loop .n < length (head c .loop .records)) × (head c .loop .n < counted (head c) .room-in .result)
+    × (head c .loop .n < roomOf (length (head c .loop .records))) × (head c .loop .n < counted (head c) .room-in .result)
 room-left c =
     let l = head c in
     some-left (l .loop .inv .0) (counted l .room-in .ensures) (l .loop .inv .1) (c .if1 .left)
+
+-- so the two words of its record are there
+words-left : (c : tie.Else1 Inv-loop μ-loop) → 2 * head c .loop .n + 1 < length (head c .loop .records)
+words-left c = omega (arith, room-left c .2, room-is (length (head c .loop .records)))
 
 -- the command's record can be made, with the level that is carried
 recordable : (c : tie.After-command Inv-loop μ-loop)
@@ -135,26 +140,36 @@ returns-2 c =
 
 returns-3 : tie.Need-returns-3 Inv-loop μ-loop
 returns-3 c =
-    let told = c .before .before .before .before .before .before in
+    let written = c .before .before .before in
+    let first = written .before .before .before in
+    let told = first .before in
     let room = told .before .before in
     let left = room-left room in
     let l = head room in
-    let written = c .before .before .before in
-    rw (c .acceptance .ensures, written .write-record .ensures, written .before .record-of .ensures, tail-written _ _ _ (left .2))
+    rw (
+      c .acceptance .ensures,
+      written .write-record .ensures,
+      written .before .second-word .ensures,
+      first .first-word .ensures,
+      tail-written _ _ _ (left .2),
+    )
     (from-start (at-start (begun l))
     (last (l .loop .inv .0) (left .0) (left .1) (took-then (command room) (told .enum-told .given .1))))
 
 loop-again : tie.Need-loop-again Inv-loop μ-loop
 loop-again c =
-    let after = c .before .before .before .before .before .before .before in
+    let written = c .before .before .before in
+    let first = written .before .before .before in
+    let after = first .before .before in
     let room = after .before .before in
     let left = room-left room in
     let l = head room in
-    let written = c .before .before .before in
     let to = took-then (command room) (after .after .given .1 ∙ ap To (sym (c .turn-at2 .ensures .0))) in
-    let going = next (l .loop .inv .0) (left .0) (left .1) to in
-    let wrote = written .write-record2 .ensures in
-    (rw (wrote, written .before .record-of2 .ensures, tail-written _ _ _ (left .2)) going, omega (arith, left .3), c .turn-at2 .ensures .1)
+    let going = next (l .loop .inv .0) (left .0) (left .1) to in (
+      rw (written .write-record2 .ensures, written .before .second-word2 .ensures, first .first-word2 .ensures, tail-written _ _ _ (left .2)) going,
+      omega (arith, left .3),
+      c .turn-at2 .ensures .1,
+    )
 
 pub run-spec : {M : Type 1} → statement M
 run-spec =
@@ -166,23 +181,29 @@ run-spec =
     -- there is no room for its record
     (λ c. search needs) (λ c κs. search needs) stopped-requires-2 (λ c. search needs) returns-2
     -- it is the last
-    (λ c. search needs) (λ c. search needs)
-    (λ c. let left = room-left (c .before .before) in search needs)
-    (λ c. let left = room-left (c .before .before) in search needs)
-    (λ c. let left = room-left (c .before .before) in search needs)
-    (λ c κs. recordable (command (c .before .before .before)))
-    (λ c κs. let told = c .before .before in let left = room-left (told .before .before) in search needs)
-    (λ c. let told = c .before .before .before .before .before in let left = room-left (told .before .before) in search needs)
-    (λ c κs. let told = c .before .before .before .before .before in let left = room-left (told .before .before) in omega arith)
+    (λ c. search needs)
+    (λ c κs. recordable (command (c .before .before)))
+    (λ c. let left = words-left (c .before .before .before) in search needs)
+    (λ c. let left = words-left (c .before .before .before) in search needs)
+    (λ c. let left = words-left (c .before .before .before) in search needs)
+    (λ c. let left = words-left (c .before .before .before) in search needs)
+    (λ c. let left = words-left (c .before .before .before) in search needs)
+    (λ c κs. recordable (command (c .before .before .before .before)) .0)
+    (λ c κs. let told = c .before .before .before in let left = words-left (told .before .before) in search needs)
+    (λ c. let told = c .before .before .before .before .before .before in let left = room-left (told .before .before) in search needs)
+    (λ c κs. let told = c .before .before .before .before .before .before in let left = room-left (told .before .before) in omega arith)
     (λ c. search needs) returns-3
     -- it goes on
-    (λ c. search needs) (λ c. search needs)
-    (λ c. let left = room-left (c .before .before .before) in search needs)
-    (λ c. let left = room-left (c .before .before .before) in search needs)
-    (λ c. let left = room-left (c .before .before .before) in search needs)
-    (λ c κs. let after = c .before .before in recordable (command (after .before .before)))
-    (λ c κs. let after = c .before .before .before in let left = room-left (after .before .before) in search needs)
-    (λ c. let after = c .before .before .before .before .before .before in let left = room-left (after .before .before) in search needs)
+    (λ c. search needs)
+    (λ c κs. let after = c .before in recordable (command (after .before .before)))
+    (λ c. let left = words-left (c .before .before .before .before) in search needs)
+    (λ c. let left = words-left (c .before .before .before .before) in search needs)
+    (λ c. let left = words-left (c .before .before .before .before) in search needs)
+    (λ c. let left = words-left (c .before .before .before .before) in search needs)
+    (λ c. let left = words-left (c .before .before .before .before) in search needs)
+    (λ c κs. let after = c .before .before .before in recordable (command (after .before .before)) .0)
+    (λ c κs. let after = c .before .before .before .before in let left = words-left (after .before .before) in search needs)
+    (λ c. let after = c .before .before .before .before .before .before .before in let left = room-left (after .before .before) in search needs)
     (λ c κs. search needs)
-    (λ c. let after = c .before .before .before .before .before .before .before in let left = room-left (after .before .before) in omega arith)
+    (λ c. let after = c .before .before .before .before .before .before .before .before in let left = room-left (after .before .before) in omega arith)
     loop-again)

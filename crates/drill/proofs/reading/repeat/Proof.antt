@@ -10,7 +10,7 @@ abbrev Inv-loop : tie.InvT-loop
 Inv-loop group next times words₀ size to₀ words to = Unit {0}
 
 abbrev μ-loop : tie.MeasureT-loop
-μ-loop group next times words₀ size to₀ words to = 33792 - to
+μ-loop group next times words₀ size to₀ words to = 263168 - to
 
 pub repeat-spec : {M : Type 1} → statement M
 repeat-spec =

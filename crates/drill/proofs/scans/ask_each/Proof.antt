@@ -7,10 +7,10 @@ use Rattle.drill.proofs.scans.ask_each.Statement.{statement}
 use Rattle.drill.proofs.scans.ask_each.Tie as tie
 
 abbrev Inv-loop : tie.InvT-loop
-Inv-loop letter n place stood words varied₀ before₀ x₀ v₀ varied before x v = Unit {0}
+Inv-loop letter n place stood words records₀ twin₀ varied₀ before₀ x₀ v₀ records twin varied before x v = Unit {0}
 
 abbrev μ-loop : tie.MeasureT-loop
-μ-loop letter n place stood words varied₀ before₀ x₀ v₀ varied before x v = n - v
+μ-loop letter n place stood words records₀ twin₀ varied₀ before₀ x₀ v₀ records twin varied before x v = n - v
 
 pub ask-each-spec : {M : Type 1} → statement M
 ask-each-spec =

@@ -1,0 +1,3 @@
+pub mod Filling
+pub mod Judging
+pub mod Unique
