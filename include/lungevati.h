@@ -66,8 +66,8 @@ struct lungevati_answer lungevati_check(const uint32_t *batch, size_t batch_len,
 
 /*
  * The same with no dynamic base at the start: a structure that is read before a STATE_BASE_ADDRESS of the capture has set one is refused, 14 at
- * the pointer. So it tells a capture that was cut too late, behind that command, from one that has it. lungevati_check never answers 14, which
- * is proved. Where this call does not either, both give the same answer and the same records: compare/ holds every capture to that, and it is not proved.
+ * the pointer. So it tells a capture that was cut too late, behind that command, from one that has it. lungevati_check never answers 14. Where
+ * this call does not either, both give the same answer and the same records. Both are proved.
  */
 struct lungevati_answer lungevati_check_no_base(const uint32_t *batch, size_t batch_len, uint64_t batch_at,
                                                 const uint32_t *state, size_t state_len, uint64_t state_at,

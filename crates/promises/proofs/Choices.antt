@@ -6,6 +6,7 @@ use mathlib.Core.Path.{_≡_, refl, sym, ap, _∙_}
 use mathlib.Core.List.{List}
 use lib.ListN.{length}
 use Rattle.rules.specs.declared.Answer.{Answer}
+use Rattle.rules.specs.declared.Base.the-variants.{Unset}
 use Rattle.rules.specs.declared.BaseChoice.{BaseChoice}
 use Rattle.rules.specs.declared.BaseChoice.the-variants.{StateWindow, NoBase}
 use Rattle.rules.specs.declared.Fault.{Fault}
@@ -13,12 +14,13 @@ use Rattle.rules.specs.declared.Verdict.{Verdict}
 use Rattle.rules.specs.declared.Verdict.the-variants.{Pass, Fails}
 use Rattle.rules.specs.Refusals.{AllPass, FirstFault, numberOf, answerWith, firstFault}
 use Rattle.rules.specs.Windows.{Capture}
-use Rattle.rules.specs.Walk.{startingBase, walk, commandsOf, endOf, answerOf}
-use Rattle.rules.specs.Records.{roomOf, CheckedFrom}
+use Rattle.rules.specs.Walk.{Run, startingBase, walk, commandsOf, endOf, answerOf}
+use Rattle.rules.specs.Records.{roomOf, writtenOf, CheckedFrom}
 use Rattle.rules.specs.File.{offer, fileChecks, fileBase, JudgedFrom}
 use Rattle.rules.proofs.Trying.{all-pass, first-fault}
 use Rattle.rules.proofs.Starting.{only-under-none, file-other}
-use Rattle.promises.specs.Choices.{FourteenUnderNone, Demands}
+use Rattle.rules.proofs.Choosing.{Fourteen, same-unless-fourteen}
+use Rattle.promises.specs.Choices.{FourteenUnderNone, Demands, SameUnlessFourteen}
 use Rattle.promises.specs.Files.{FileDemands}
 use Rattle.promises.proofs.Demand1.{demand-1}
 use Rattle.promises.proofs.Demand2.{demand-2}
@@ -50,6 +52,18 @@ by-default p = demands StateWindow p
 
 pub under-none : {c : Capture} {old new : List ℕ} {r : Answer} → CheckedFrom NoBase c old r new → Demands NoBase c old r new
 under-none p = demands NoBase p
+
+-- THE SAME BY BOTH, unless it is 14 under "none": of two calls with record buffers of the same words
+module _ {c : Capture} {old new noneNew : List ℕ} {r none : Answer} (p : CheckedFrom StateWindow c old r new) (q : CheckedFrom NoBase c old none noneNew) where
+  pub same-by-both : SameUnlessFourteen r new none noneNew
+  unfolding answerOf answerWith
+  same-by-both other =
+      let room = roomOf (length old) in
+      let run = walk Unset c room in
+      let told : Fourteen (endOf run) → ⊥ = λ x.
+      other (ap (λ (a : Answer). a .reason) (q .answers) ∙ ap (λ (v : Verdict). answerWith v (length (commandsOf run)) .reason) (x .1) ∙ x .2) in
+      let same = same-unless-fourteen (c .stateAt) c room told in
+      (p .answers ∙ ap answerOf same ∙ sym (q .answers), p .written ∙ ap (λ (w : Run). writtenOf w old) same ∙ sym (q .written))
 
 -- and so for a file
 pub file-by-default : {file batch state records newBatch newState newRecords : List ℕ} {r : Answer}

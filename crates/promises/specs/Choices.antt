@@ -24,3 +24,7 @@ pub record Demands (choice : BaseChoice) (c : Capture) (old : List ℕ) (r : Ans
   pub demand2 : Demand2 (startingBase choice (c .stateAt)) c old r new
   pub demand3 : r .reason ≡ 0 → Demand3 c (r .count) (take (wordsFor (r .count)) new)
   pub fourteen : FourteenUnderNone choice r
+
+-- where "none" does not give 14, both choices give the same: the answer and the record buffer by the default, and those under "none"
+abbrev pub SameUnlessFourteen : Answer → List ℕ → Answer → List ℕ → Type 0
+SameUnlessFourteen r new none noneNew = (none .reason ≡ 14 → ⊥) → (r ≡ none) × (new ≡ noneNew)

@@ -20,3 +20,4 @@ pub mod Deciding
 pub mod HeaderParts
 pub mod Writing
 pub mod Starting
+pub mod Choosing
