@@ -13,8 +13,6 @@ ghost use Rattle.step.specs.Parts.{captured, Fitted, SmallBase};
 ghost use Rattle.walk.specs.Lent.{lentCapture, stopFor, Ran};
 use answers::acceptance;
 use answers::refusal;
-use records::first_word;
-use records::second_word;
 use records::write_record;
 use rows::mask_table;
 use rules::After;
@@ -69,13 +67,11 @@ fn run<'a>(
                 }
                 match after {
                     After::Ends => {
-                        let first = first_word(turn.level, command);
-                        write_record(&mut records[2 * n..], first, second_word(command));
+                        write_record(&mut records[2 * n..], turn.level, command);
                         return acceptance(n + 1);
                     }
                     After::To(t) => {
-                        let first = first_word(turn.level, command);
-                        write_record(&mut records[2 * n..], first, second_word(command));
+                        write_record(&mut records[2 * n..], turn.level, command);
                         n += 1;
                         turn = turn_at(t);
                     }

@@ -141,35 +141,24 @@ returns-2 c =
 returns-3 : tie.Need-returns-3 Inv-loop μ-loop
 returns-3 c =
     let written = c .before .before .before in
-    let first = written .before .before .before in
-    let told = first .before in
+    let told = written .before .before in
     let room = told .before .before in
     let left = room-left room in
     let l = head room in
-    rw (
-      c .acceptance .ensures,
-      written .write-record .ensures,
-      written .before .second-word .ensures,
-      first .first-word .ensures,
-      tail-written _ _ _ (left .2),
-    )
+    rw (c .acceptance .ensures, written .write-record .ensures, tail-written _ _ _ (left .2))
     (from-start (at-start (begun l))
     (last (l .loop .inv .0) (left .0) (left .1) (took-then (command room) (told .enum-told .given .1))))
 
 loop-again : tie.Need-loop-again Inv-loop μ-loop
 loop-again c =
     let written = c .before .before .before in
-    let first = written .before .before .before in
-    let after = first .before .before in
+    let after = written .before .before .before in
     let room = after .before .before in
     let left = room-left room in
     let l = head room in
     let to = took-then (command room) (after .after .given .1 ∙ ap To (sym (c .turn-at2 .ensures .0))) in
-    let going = next (l .loop .inv .0) (left .0) (left .1) to in (
-      rw (written .write-record2 .ensures, written .before .second-word2 .ensures, first .first-word2 .ensures, tail-written _ _ _ (left .2)) going,
-      omega (arith, left .3),
-      c .turn-at2 .ensures .1,
-    )
+    let going = next (l .loop .inv .0) (left .0) (left .1) to in
+    (rw (written .write-record2 .ensures, tail-written _ _ _ (left .2)) going, omega (arith, left .3), c .turn-at2 .ensures .1)
 
 pub run-spec : {M : Type 1} → statement M
 run-spec =
@@ -182,28 +171,32 @@ run-spec =
     (λ c. search needs) (λ c κs. search needs) stopped-requires-2 (λ c. search needs) returns-2
     -- it is the last
     (λ c. search needs)
-    (λ c κs. recordable (command (c .before .before)))
-    (λ c. let left = words-left (c .before .before .before) in search needs)
-    (λ c. let left = words-left (c .before .before .before) in search needs)
-    (λ c. let left = words-left (c .before .before .before) in search needs)
-    (λ c. let left = words-left (c .before .before .before) in search needs)
-    (λ c. let left = words-left (c .before .before .before) in search needs)
-    (λ c κs. recordable (command (c .before .before .before .before)) .0)
-    (λ c κs. let told = c .before .before .before in let left = words-left (told .before .before) in search needs)
-    (λ c. let told = c .before .before .before .before .before .before in let left = room-left (told .before .before) in search needs)
-    (λ c κs. let told = c .before .before .before .before .before .before in let left = room-left (told .before .before) in omega arith)
+    (λ c. let left = words-left (c .before .before) in search needs)
+    (λ c. let left = words-left (c .before .before) in search needs)
+    (λ c. let left = words-left (c .before .before) in search needs)
+    (λ c. let left = words-left (c .before .before) in search needs)
+    (λ c. let left = words-left (c .before .before) in search needs)
+    (λ c κs.
+    let room = c .before .before .before in
+    let left = words-left room in
+    let fits = recordable (command room) in
+    (search needs, fits .0, fits .1))
+    (λ c. let told = c .before .before .before .before in let left = room-left (told .before .before) in search needs)
+    (λ c κs. let told = c .before .before .before .before in let left = room-left (told .before .before) in omega arith)
     (λ c. search needs) returns-3
     -- it goes on
     (λ c. search needs)
-    (λ c κs. let after = c .before in recordable (command (after .before .before)))
-    (λ c. let left = words-left (c .before .before .before .before) in search needs)
-    (λ c. let left = words-left (c .before .before .before .before) in search needs)
-    (λ c. let left = words-left (c .before .before .before .before) in search needs)
-    (λ c. let left = words-left (c .before .before .before .before) in search needs)
-    (λ c. let left = words-left (c .before .before .before .before) in search needs)
-    (λ c κs. let after = c .before .before .before in recordable (command (after .before .before)) .0)
-    (λ c κs. let after = c .before .before .before .before in let left = words-left (after .before .before) in search needs)
-    (λ c. let after = c .before .before .before .before .before .before .before in let left = room-left (after .before .before) in search needs)
+    (λ c. let left = words-left (c .before .before .before) in search needs)
+    (λ c. let left = words-left (c .before .before .before) in search needs)
+    (λ c. let left = words-left (c .before .before .before) in search needs)
+    (λ c. let left = words-left (c .before .before .before) in search needs)
+    (λ c. let left = words-left (c .before .before .before) in search needs)
+    (λ c κs.
+    let room = c .before .before .before .before in
+    let left = words-left room in
+    let fits = recordable (command room) in
+    (search needs, fits .0, fits .1))
+    (λ c. let after = c .before .before .before .before .before in let left = room-left (after .before .before) in search needs)
     (λ c κs. search needs)
-    (λ c. let after = c .before .before .before .before .before .before .before .before in let left = room-left (after .before .before) in omega arith)
+    (λ c. let after = c .before .before .before .before .before .before in let left = room-left (after .before .before) in omega arith)
     loop-again)
