@@ -1,10 +1,11 @@
 /*
  * Checks the capture on standard input through the C calls, and prints document 01's answer line, as the printout has it: with no dynamic base at
- * the start. Exit status: 0 accepted, 1 refused, 2 not read.
+ * the start. Exit status: 0 accepted, 1 refused, 2 not read, or the answer not written.
  */
 #include "lungevati.h"
 
 /* Where there is a C library with its headers, <stdio.h> and <unistd.h> say the same. */
+int fflush(void *);
 int printf(const char *, ...);
 long read(int, void *, unsigned long);
 
@@ -16,7 +17,7 @@ static uint32_t batch[WORDS], state[WORDS], records[RECORD_WORDS];
 
 static int say(uint32_t reason, uint32_t window, uint32_t index, uint32_t count)
 {
-    if (printf("reason %u window %u index %u commands %u\n", reason, window, index, count) < 0) return 2;
+    if (printf("reason %u window %u index %u commands %u\n", reason, window, index, count) < 0 || fflush(0) != 0) return 2;
     return reason != 0;
 }
 
