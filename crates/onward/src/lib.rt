@@ -82,12 +82,20 @@ fn base_after(row: usize, command: &[u32], base: Base) -> Base
     Base::Set(0x1000 * pages + 0x1_0000_0000 * high)
 }
 
-// Where the command leads from the cursor; `next` is the position after it.
+// Where the command leads from the cursor; `next` is the position after it. The rows above the start's that change nothing are asked first: that leaves
+// a no-op a way of its own through the walk's loop, on which the compiler knows its row and its length.
 pub fn move_of(batch_at: u64, s: Cursor, row: usize, command: &[u32], next: usize) -> After
     ensures { λ r. ⌜ r ≡ moveFrom «batch_at» s row (now (command .entry)) next ⌝ }
 {
     let level = s.level;
     let base = s.base;
+    if START_ROW < row && row != BASE_ROW {
+        return After::To(Cursor {
+            at: next,
+            level,
+            base,
+        });
+    }
     if row == END_ROW {
         return after_end(level, base);
     }

@@ -80,8 +80,8 @@ fn verdict_at<'a>(
     verdict_of(structures::read(batch, w.batch.at, state, w.state.at, kind, address, place))
 }
 
-// The first fault of the structure that is pointed to, in the order of 14 to 17. The kind is written out: with more than one caller the read
-// is compiled apart, and does not take registers from the walk's loop, in which most commands read nothing.
+// The first fault of the structure that is pointed to, in the order of 14 to 17. The kind is written out, so that each read is compiled for its own
+// structure: one read for all three takes registers from the walk's loop, in which most commands read nothing.
 pub fn structure_fault<'a>(
     batch: &'a [u32],
     state: &'a [u32],
