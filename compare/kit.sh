@@ -34,9 +34,10 @@ kit_run() {
     $kit_emulator "$kit_tools/lib/ld-linux-x86-64.so.2" --library-path "$kit_tools/lib" "$@"
 }
 
-# kit_archives LOG: proves and builds the libraries with the calls of include/lungevati.h, one for each engine; kit_calls is what to link
+# kit_archives LOG: proves and builds the libraries with the calls of include/lungevati.h, one for each engine; kit_calls is what to link. The gate
+# has them made once, and says so by LUNGEVATI_ARCHIVES.
 kit_archives() {
-    (cd "${top:?}" && rt staticlib api && rt staticlib api_table) >"$1" 2>&1 || { cat "$1" >&2; exit 2; }
+    [ "${LUNGEVATI_ARCHIVES-}" = made ] || (cd "${top:?}" && rt staticlib api && rt staticlib api_table) >"$1" 2>&1 || { cat "$1" >&2; exit 2; }
     kit_calls="$top/target/staticlib/libapi.a $top/target/staticlib/libapi_table.a"
 }
 

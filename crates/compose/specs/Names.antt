@@ -3,7 +3,7 @@ use Prim.Native.Nat.{ℕ, _<_}
 use mathlib.Core.Path.{_≡_}
 use mathlib.Core.List.{List}
 use Rattle.rules.specs.Commands.{rowCount}
-use Rattle.sentences.specs.Words.{commandWords}
+use Rattle.phrases.specs.Words.{commandWords}
 use Rattle.compose.specs.declared.numbers.Value.{Value}
 use Rattle.compose.specs.declared.numbers.Value.the-variants.{Is, Nothing}
 

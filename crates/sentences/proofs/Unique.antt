@@ -10,7 +10,7 @@ use Rattle.lines.proofs.Unique.{one-line}
 use Rattle.sentences.specs.declared.Unread.{Unread}
 use Rattle.sentences.specs.declared.Detail.{Detail}
 use Rattle.sentences.specs.Lines.{refusedWords, unreadWords, acceptedLine, refusedLine, unreadLine, unlistedLine, reasonLine, unlistedTotal, totalsLine, writingLine}
-use Rattle.sentences.specs.Words.{commandWords}
+use Rattle.phrases.specs.Words.{commandWords}
 
 module _ {old new new′ : List ℕ} {r r′ : ℕ} where
   pub accepted-line-unique : (name : List ℕ) (count : ℕ) → Line (acceptedLine name count) old r new

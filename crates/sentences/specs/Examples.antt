@@ -8,7 +8,7 @@ use Rattle.rules.specs.Printout.{digitsOf, bytes}
 use Rattle.sentences.specs.declared.Unread.the-variants.{NoSuchFile, Folder, Other}
 use Rattle.sentences.specs.declared.Detail.the-variants.{NoMore, InCommand, Reach, HasBytes, HasTooMany}
 use Rattle.lines.specs.Hexadecimal.{hexDigit, hexDigits}
-use Rattle.sentences.specs.Words.{wordsIn, reasonTable, writingTable, commandTable, accessTable, withinWords, errorTable}
+use Rattle.phrases.specs.Words.{wordsIn, reasonTable, writingTable, commandTable, accessTable, withinWords, errorTable}
 use Rattle.sentences.specs.Lines.{commandsText, windowText, dwordText, placeText, progressText, acceptedLine, refusedLine, unreadLine, baseText, totalsLine, writingLine}
 use Rattle.sentences.specs.Lines.{bytesText, commandText, addressText, reachText, sizeText, detailText, refusedWords, errorText, unreadWords, isMissing}
 

@@ -1,4 +1,2 @@
-pub mod Words
 pub mod Lines
 pub mod Examples
-pub mod Rows

@@ -13,7 +13,7 @@ use Rattle.sentences.specs.declared.Unread.the-variants.{NoSuchFile, Not
 use Rattle.sentences.specs.declared.Detail.{Detail}
 use Rattle.sentences.specs.declared.Detail.the-variants.{NoMore, InCommand, Reach, HasBytes, HasTooMany}
 use Rattle.lines.specs.Hexadecimal.{hexDigits}
-use Rattle.sentences.specs.Words.{reasonWords, writingWords, commandWords, accessWords, withinWords, errorWords}
+use Rattle.phrases.specs.Words.{reasonWords, writingWords, commandWords, accessWords, withinWords, errorWords}
 
 -- "1 command", "214 commands"
 unfoldable pub commandsText : ℕ → List ℕ

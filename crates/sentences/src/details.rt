@@ -1,19 +1,19 @@
 // Why a capture is refused, in words, and what happened: each part is put at a place, and the place behind it comes back, as in `parts`.
 use crate::Detail;
 use crate::parts::put_count;
-use crate::words::access_row;
-use crate::words::command_row;
-use crate::words::put_row;
-use crate::words::reason_row;
-use crate::words::within_row;
 use lines::put_hex;
 use lines::put_text;
+use phrases::access_row;
+use phrases::command_row;
+use phrases::put_row;
+use phrases::reason_row;
+use phrases::within_row;
 use rules::Within;
 ghost use Prim.Native.Nat.{_+_, _≤_};
 ghost use mathlib.Core.List.{_++_};
 ghost use lib.ListN.{length};
 ghost use Rattle.lines.specs.Lines.{Put};
-ghost use Rattle.sentences.specs.Rows.{trimmed};
+ghost use Rattle.phrases.specs.Rows.{trimmed};
 ghost use Rattle.sentences.specs.Lines.{bytesText, commandText, addressText, reachText, sizeText, detailText, refusedWords};
 
 // A text, and the words of a row behind it.

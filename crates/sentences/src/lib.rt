@@ -7,15 +7,15 @@ use crate::parts::put_count;
 use crate::parts::put_progress;
 use crate::why::put_unread;
 use crate::why::put_verdict;
-use crate::words::command_row;
-use crate::words::put_row;
-use crate::words::reason_row;
-use crate::words::writing_row;
 use lines::LINE_BYTES;
 use lines::MOST_DIGITS;
 use lines::put_byte;
 use lines::put_digits;
 use lines::put_text;
+use phrases::command_row;
+use phrases::put_row;
+use phrases::reason_row;
+use phrases::writing_row;
 use rules::Answer;
 use rules::BaseChoice;
 use rules::Within;
@@ -24,12 +24,11 @@ ghost use mathlib.Core.Path.{_≡_};
 ghost use lib.ListN.{length};
 ghost use Rattle.lines.specs.Lines.{Line, nameBytes};
 ghost use Rattle.sentences.specs.Lines.{refusedWords, unreadWords, isMissing, acceptedLine, refusedLine, unreadLine, unlistedLine, reasonLine, unlistedTotal, totalsLine, writingLine};
-ghost use Rattle.sentences.specs.Words.{commandWords};
+ghost use Rattle.phrases.specs.Words.{commandWords};
 
 mod details;
 mod parts;
 mod why;
-mod words;
 
 // Why a file was not read.
 pub enum Unread {

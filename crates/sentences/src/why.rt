@@ -2,10 +2,10 @@
 use crate::Unread;
 use crate::details::put_words;
 use crate::is_missing;
-use crate::words::error_row;
 use lines::MOST_DIGITS;
 use lines::put_digits;
 use lines::put_text;
+use phrases::error_row;
 ghost use Prim.Native.Nat.{_+_, _≤_};
 ghost use mathlib.Core.Bool.{cond};
 ghost use mathlib.Core.List.{_++_};

@@ -11,8 +11,8 @@ ghost use Rattle.rules.specs.Walk.{start, startingBase};
 ghost use Rattle.rules.specs.Records.{roomOf, CheckedFrom};
 ghost use Rattle.step.specs.Parts.{captured, Fitted, SmallBase};
 ghost use Rattle.walk.specs.Lent.{lentCapture, stopFor, Ran};
-use answers::acceptance;
-use answers::refusal;
+use records::answers::acceptance;
+use records::answers::refusal;
 use records::write_record;
 use rows::mask_table;
 use rules::After;
@@ -32,8 +32,6 @@ use step::step;
 use table::SURFACE_FORMATS;
 use turns::turn_at;
 
-pub mod answers;
-mod records;
 mod table;
 mod turns;
 

@@ -9,7 +9,7 @@ use lib.Seq.{length-take-le}
 use borrow.Author.Count.{below-more}
 use borrow.Author.Needs.{needs}
 use Rattle.lines.proofs.Putting.{line-within, line-front}
-use Rattle.sentences.specs.Words.{commandWords}
+use Rattle.phrases.specs.Words.{commandWords}
 use Rattle.compose.proofs.numbers.named.Statement.{statement}
 use Rattle.compose.proofs.numbers.named.Tie as tie
 
