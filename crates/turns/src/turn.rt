@@ -2,7 +2,7 @@
 ghost use mathlib.Core.Path.{_≡_};
 ghost use lib.Dec.{eqb};
 ghost use Rattle.rules.specs.Step.{levelNumber};
-ghost use Rattle.walk.specs.Lent.{keptAt};
+ghost use Rattle.turns.specs.Running.{keptAt};
 use onward::level_number;
 use rules::Base;
 use rules::Cursor;

@@ -1,4 +1,4 @@
--- `walk::run` meets its contract. The invariant, `Going`: the walk is the commands done, whose words stand in the record buffer,
+-- `turns::run` meets its contract. The invariant, `Going`: the walk is the commands done, whose words stand in the record buffer,
 -- and then what it has still to give from here; beside it, the level that the turn has is its cursor's. Each way out of a turn, and the
 -- turn itself, is a law of Looping. The measure is what is left of the room.
 -- Assumes nothing.
@@ -19,10 +19,10 @@ use Rattle.rules.specs.Records.{Recordable, roomOf}
 use Rattle.rules.proofs.Recording.{fits-record}
 use Rattle.rules.proofs.Listing.{room-is}
 use Rattle.step.specs.Parts.{captured}
-use Rattle.walk.proofs.Looping.{Going, started, from-start, stops, refused, full, last, next, none-left-there, some-left, level-is}
-use Rattle.walk.proofs.Looping.{small-place, small-at, tail-written}
-use Rattle.walk.proofs.run.Statement.{statement}
-use Rattle.walk.proofs.run.Tie as tie
+use Rattle.turns.proofs.Looping.{Going, started, from-start, stops, refused, full, last, next, none-left-there, some-left, level-is}
+use Rattle.turns.proofs.Looping.{small-place, small-at, tail-written}
+use Rattle.turns.proofs.run.Statement.{statement}
+use Rattle.turns.proofs.run.Tie as tie
 
 abbrev Inv-loop : tie.InvT-loop
 Inv-loop plainly batch state w records₀ masks formats room n₀ turn₀ records n turn =

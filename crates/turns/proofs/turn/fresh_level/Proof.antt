@@ -1,10 +1,10 @@
--- `walk::turns::fresh_level` meets its contract: what was taken apart is put together.
+-- `turns::turn::fresh_level` meets its contract: what was taken apart is put together.
 -- Assumes nothing.
 use mathlib.Core.Path.{sym, _∙_}
 use borrow.Author.Needs.{needs}
-use Rattle.walk.proofs.Looping.{same-second, same-first}
-use Rattle.walk.proofs.turns.fresh_level.Statement.{statement}
-use Rattle.walk.proofs.turns.fresh_level.Tie as tie
+use Rattle.turns.proofs.Looping.{same-second, same-first}
+use Rattle.turns.proofs.turn.fresh_level.Statement.{statement}
+use Rattle.turns.proofs.turn.fresh_level.Tie as tie
 
 returns : tie.Need-returns
 returns c = rw (c .kept .ensures) (same-second _ (sym (c .before .before .is-second .ensures) ∙ c .before .if1 .taken))

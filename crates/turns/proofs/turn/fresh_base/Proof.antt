@@ -1,9 +1,9 @@
--- `walk::turns::fresh_base` meets its contract: what was taken apart is put together.
+-- `turns::turn::fresh_base` meets its contract: what was taken apart is put together.
 -- Assumes nothing.
 use mathlib.Core.Path.{sym}
 use borrow.Author.Needs.{needs}
-use Rattle.walk.proofs.turns.fresh_base.Statement.{statement}
-use Rattle.walk.proofs.turns.fresh_base.Tie as tie
+use Rattle.turns.proofs.turn.fresh_base.Statement.{statement}
+use Rattle.turns.proofs.turn.fresh_base.Tie as tie
 
 returns-2 : tie.Need-returns-2
 returns-2 c = sym (c .before .base .given .1)

@@ -1,8 +1,8 @@
--- `walk::turns::is_second` meets its contract.
+-- `turns::turn::is_second` meets its contract.
 -- Assumes nothing.
 use borrow.Author.Needs.{needs}
-use Rattle.walk.proofs.turns.is_second.Statement.{statement}
-use Rattle.walk.proofs.turns.is_second.Tie as tie
+use Rattle.turns.proofs.turn.is_second.Statement.{statement}
+use Rattle.turns.proofs.turn.is_second.Tie as tie
 
 returns : tie.Need-returns
 returns c = rw (c .enum-told .given .1)

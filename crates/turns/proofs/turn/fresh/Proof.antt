@@ -1,8 +1,8 @@
--- `walk::turns::fresh` meets its contract: the parts are the cursor's own.
+-- `turns::turn::fresh` meets its contract: the parts are the cursor's own.
 -- Assumes nothing.
 use borrow.Author.Needs.{needs}
-use Rattle.walk.proofs.turns.fresh.Statement.{statement}
-use Rattle.walk.proofs.turns.fresh.Tie as tie
+use Rattle.turns.proofs.turn.fresh.Statement.{statement}
+use Rattle.turns.proofs.turn.fresh.Tie as tie
 
 returns : tie.Need-returns
 returns c = rw (c .before .fresh-level .ensures, c .fresh-base .ensures)

@@ -9,15 +9,12 @@ use mathlib.Core.List.{List, [], _∷_, _++_, append-nil}
 use mathlib.Core.Logic.{⊎-elim}
 use lib.ListN.{length, getD, take, drop, set, length-append, take-append-drop}
 use lib.Seq.{drop-drop}
-use lib.Dec.{lit<, eqb}
+use lib.Dec.{eqb}
 use borrow.Author.Tests.{eqb-true, eqb-false}
 use borrow.Rule.Slice.PartMut.{putMid, midOf, postOf, mid-len}
-use Rattle.rules.specs.declared.Windows.{Windows}
 use Rattle.rules.specs.declared.Answer.{Answer}
 use Rattle.rules.specs.declared.Base.{Base}
 use Rattle.rules.specs.declared.Base.the-variants.{Unset, Set}
-use Rattle.rules.specs.declared.BaseChoice.{BaseChoice}
-use Rattle.rules.specs.declared.BaseChoice.the-variants.{StateWindow, NoBase}
 use Rattle.rules.specs.declared.Level.{Level}
 use Rattle.rules.specs.declared.Level.the-variants.{First, Second}
 use Rattle.rules.specs.declared.Cursor.{Cursor}
@@ -30,22 +27,20 @@ use Rattle.rules.specs.declared.Verdict.{Verdict}
 use Rattle.rules.specs.declared.Verdict.the-variants.{Pass, Fails}
 use Rattle.rules.specs.Words.{bit}
 use Rattle.rules.specs.Refusals.{answerWith}
-use Rattle.rules.specs.Windows.{Capture, windowsOf, lengthsOf, windowFault, windowLimit}
+use Rattle.rules.specs.Windows.{Capture, windowLimit}
 use Rattle.rules.specs.Commands.{baseRow}
 use Rattle.rules.specs.Step.{budget, spentAt, fullAt, newBase, baseAfter, levelNumber, commandAt, stepOf}
-use Rattle.rules.specs.Walk.{Run, ended, then, trace, traceFrom, cut, start, startingBase, commandsOf, endOf, answerOf}
-use Rattle.rules.specs.Records.{firstWord, secondWord, wordsOf, wordsFor, roomOf, writtenOf, Checked}
+use Rattle.rules.specs.Walk.{Run, ended, then, trace, traceFrom, cut, start, commandsOf, endOf, answerOf}
+use Rattle.rules.specs.Records.{firstWord, secondWord, wordsOf, wordsFor, roomOf, writtenOf}
 use Rattle.rules.proofs.Searching.{never-both}
 use Rattle.rules.proofs.Listing.{words-counted, no-words, withRecord, record-added, with-record-long, room-is, two-set, record-put}
 use Rattle.rules.proofs.Running.{follow, commands-follow, end-follows}
 use Rattle.rules.proofs.Stepping.{took}
-use Rattle.rules.proofs.Walking.{walk-sound, walk-unsound}
 use Rattle.rules.proofs.Places.{refusal-place}
-use Rattle.rules.proofs.Ranges.{sound as windows-sound}
 use Rattle.rules.proofs.Moving.{Within, Way, ends, returns, jumps, calls, goes-on, taken-way, same-cursor, ends-nowhere}
 use Rattle.rules.proofs.Moving.{stays-within, starts-within}
-use Rattle.step.specs.Parts.{captured, Fitted, SmallBase}
-use Rattle.walk.specs.Lent.{keptAt, stopFor, Ran}
+use Rattle.step.specs.Parts.{SmallBase}
+use Rattle.turns.specs.Running.{keptAt, stopFor, Ran}
 
 -- the commands done stand in the record buffer, the rest of it is as it came, and the walk is these commands and then the run r
 pub record SoFar (base : Base) (c : Capture) (old new : List ℕ) (n : ℕ) (r : Run) : Type 0 where
@@ -97,7 +92,7 @@ none-left k n h = omega arith
 new-base-small : (d : List ℕ) → newBase d < 2 ^ 48
 new-base-small d = omega arith
 
-same-base : {a b : ℕ} → Set a ≡ Set b → a ≡ b
+pub same-base : {a b : ℕ} → Set a ≡ Set b → a ≡ b
 same-base q = cc
 
 base-small : (r : ℕ) (d : List ℕ) {base : Base} → SmallBase base → SmallBase (baseAfter r d base)
@@ -246,46 +241,6 @@ module _ {base : Base} {c : Capture} {old new : List ℕ} {n : ℕ} {s : Cursor}
       ⊎-elim (λ q. (omega (arith, q .0), omega (arith, q .1), omega arith))
       (λ q. (omega (arith, q .0), omega (arith, q .1), omega arith))
       (refusal-place c s (g .within) e)
-
--- behind the checks 1 to 4: the promise of the public call, from whatever base
-pub unsound : (base : Base) (c : Capture) (old : List ℕ) {f : Fault} → windowFault (lengthsOf c) ≡ Fails f
-    → Checked base c old (answerWith (Fails f) 0) old
-unfolding answerOf writtenOf commandsOf endOf wordsOf
-unsound base c old e = record {
-  answers = rw (walk-unsound base c (roomOf (length old)) e);
-  written = rw (walk-unsound base c (roomOf (length old)) e);
-}
-
-pub sound : (base : Base) (c : Capture) (old : List ℕ) {made : Base} {r : Answer} {new : List ℕ} → windowFault (lengthsOf c) ≡ Pass
-    → made ≡ base → Ran made c old r new → Checked base c old r new
-sound base c old e m p =
-    let q = rw m at p in record {
-      answers = rw (walk-sound base c (roomOf (length old)) e) (q .answers);
-      written = rw (walk-sound base c (roomOf (length old)) e) (q .written);
-    }
-
--- what the windows' numbers are known to be
-pub fitting : (c : Capture) {w : Windows} → w ≡ windowsOf c → Fitted w (c .batch) (c .state)
-unfolding windowsOf
-fitting c e = record { batchBytes = ap (λ (w : Windows). w .batch .bytes) e; stateBytes = ap (λ (w : Windows). w .state .bytes) e }
-
-pub captured-is : (c : Capture) {w : Windows} → w ≡ windowsOf c → captured w (c .batch) (c .state) ≡ c
-unfolding windowsOf
-captured-is c e = rw e
-
--- the base that is chosen is small: a sound state window lies at or below 2^48, where it ends
-pub chosen-small : (choice : BaseChoice) (c : Capture) → windowFault (lengthsOf c) ≡ Pass → SmallBase (startingBase choice (c .stateAt))
-unfolding windowsOf
-chosen-small NoBase c e = record { small = λ b q. absurd (let z : _≡_ {A = ℕ} 0 1 = cc in omega arith) }
-chosen-small StateWindow c e =
-    let ends = windows-sound (lengthsOf c) e .ends 1 (lit< tt) in
-    record { small = λ b q. omega (arith, same-base q) }
-
-pub judged : (c : Capture) {w : Windows} {v : Verdict} → w ≡ windowsOf c
-    → v ≡ windowFault (record { batch = length (c .batch); state = length (c .state); windows = w })
-    → windowFault (lengthsOf c) ≡ v
-judged c e p =
-    ap (λ (w : Windows). windowFault (record { batch = length (c .batch); state = length (c .state); windows = w })) (sym e) ∙ sym p
 
 -- a level, put together from whether it is the second, and what it keeps
 pub same-second : (l : Level) → eqb (levelNumber l) 1 ≡ true → Second (keptAt l) ≡ l

@@ -1,9 +1,9 @@
--- `walk::stopped` meets its contract.
+-- `turns::stopped` meets its contract.
 -- Assumes nothing.
 use borrow.Author.Needs.{needs}
 use borrow.Author.Tests.{eq-eqb, ne-eqb}
-use Rattle.walk.proofs.stopped.Statement.{statement}
-use Rattle.walk.proofs.stopped.Tie as tie
+use Rattle.turns.proofs.stopped.Statement.{statement}
+use Rattle.turns.proofs.stopped.Tie as tie
 
 refusal-requires : tie.Need-refusal-requires
 refusal-requires c κs = rw (c .spent .ensures) (search needs)

@@ -1,9 +1,9 @@
--- `walk::room_in` meets its contract: a buffer has room for as many records as it has words.
+-- `turns::room_in` meets its contract: a buffer has room for half as many records as it has words.
 -- Assumes nothing.
 use borrow.Author.Needs.{needs}
 use Rattle.rules.proofs.Listing.{room-is}
-use Rattle.walk.proofs.room_in.Statement.{statement}
-use Rattle.walk.proofs.room_in.Tie as tie
+use Rattle.turns.proofs.room_in.Statement.{statement}
+use Rattle.turns.proofs.room_in.Tie as tie
 
 returns : tie.Need-returns
 returns c = rw room-is (search needs)
