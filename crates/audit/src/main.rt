@@ -6,6 +6,8 @@ ghost use lib.ListN.{length, take};
 ghost use Rattle.lines.specs.Lines.{nameBytes};
 ghost use Rattle.members.specs.Strings.{quoted};
 use causes::cause;
+use clauses::Detail;
+use clauses::Unread;
 use json::Totals;
 use libc::SEEK_END;
 use libc::STDOUT_FILENO;
@@ -23,8 +25,6 @@ use reports::has_letter;
 use rules::Answer;
 use rules::BaseChoice;
 use rules::Opened;
-use sentences::Detail;
-use sentences::Unread;
 use sentences::WORDS_BYTES;
 use std::num::wrapping_add_u64;
 
@@ -292,7 +292,7 @@ fn found_kind(found: Finding) -> u8 {
 }
 
 fn unread_kind(why: Unread) -> u8 {
-    if sentences::is_missing(why) {
+    if clauses::is_missing(why) {
         MISSING
     } else {
         UNREAD
@@ -373,7 +373,7 @@ fn dword_told(reason: u32, dword: u32) -> Number {
 }
 
 fn outcome_of(why: Unread) -> Outcome {
-    if sentences::is_missing(why) {
+    if clauses::is_missing(why) {
         Outcome::Missing
     } else {
         Outcome::Unread
