@@ -516,11 +516,14 @@ APART uint64_t noops(const uint32_t *cmd, uint32_t *out, uint64_t most, uint32_t
 {
     const uint32_t second = NOOP << 24 | 1 << 16;
     uint64_t n = 0;
-    four pair = (four){at, second, at + 1, second};
-    const four two = {2, 0, 2, 0};
+    four pairs[8]; /* of records, each with a count of its own: none waits for another, and none is copied first */
+    for (uint32_t i = 0; i < 8; i++) pairs[i] = (four){at + 2 * i, second, at + 2 * i + 1, second};
     for (; n + 16 <= most; n += 16, out += 16 * RECORD) {
         if (!all_zero((load(cmd + n) | load(cmd + n + 4) | load(cmd + n + 8) | load(cmd + n + 12)) >> 22)) break;
-        for (uint32_t i = 0; i < 16 * RECORD; i += 4, pair += two) store(out + i, pair);
+        for (uint32_t i = 0; i < 8; i++) {
+            store(out + 4 * i, pairs[i]);
+            pairs[i] += (four){16, 0, 16, 0};
+        }
     }
     for (; n < most && cmd[n] >> 22 == 0; n++, out += RECORD) record(out, at + (uint32_t)n, second);
     return n;

@@ -4,16 +4,18 @@ ghost use mathlib.Core.Path.{_≡_};
 ghost use Prim.Native.Nat.{_≤_, _<_};
 ghost use lib.ListN.{length, take};
 ghost use Rattle.lines.specs.Lines.{nameBytes};
-ghost use Rattle.json.specs.Strings.{quoted};
+ghost use Rattle.members.specs.Strings.{quoted};
 use causes::cause;
-use json::Number;
-use json::Outcome;
+use clauses::Detail;
+use clauses::Unread;
 use json::Totals;
 use libc::SEEK_END;
 use libc::STDOUT_FILENO;
 use lines::LINE_BYTES;
 use lines::NAME_BYTES;
 use lines::put_text;
+use members::Number;
+use members::Outcome;
 use reports::ACCEPTED;
 use reports::MOST_BYTES;
 use reports::REFUSED;
@@ -23,8 +25,6 @@ use reports::has_letter;
 use rules::Answer;
 use rules::BaseChoice;
 use rules::Opened;
-use sentences::Detail;
-use sentences::Unread;
 use sentences::WORDS_BYTES;
 use std::num::wrapping_add_u64;
 
@@ -292,7 +292,7 @@ fn found_kind(found: Finding) -> u8 {
 }
 
 fn unread_kind(why: Unread) -> u8 {
-    if sentences::is_missing(why) {
+    if clauses::is_missing(why) {
         MISSING
     } else {
         UNREAD
@@ -373,7 +373,7 @@ fn dword_told(reason: u32, dword: u32) -> Number {
 }
 
 fn outcome_of(why: Unread) -> Outcome {
-    if sentences::is_missing(why) {
+    if clauses::is_missing(why) {
         Outcome::Missing
     } else {
         Outcome::Unread

@@ -14,7 +14,7 @@ use Rattle.rules.specs.Uses.{pairAddress, addressAt}
 use Rattle.rules.specs.Step.{rowAt, lengthAt, dwordsAt}
 use Rattle.rules.specs.Records.{commandOf, commandsIn, wordsFor, roomOf}
 use Rattle.rules.proofs.Listing.{commands-counted, command-at, commands-taken, room-is, words-for-is}
-use Rattle.sentences.specs.declared.Detail.the-variants.{NoMore}
+use Rattle.clauses.specs.declared.Detail.the-variants.{NoMore}
 use Rattle.causes.specs.Causes.{keptBy, leadsTo, keptAfter, standsAfter, positionAfter, reachWith, reachAt}
 
 kept-more : (kept : ℕ) (ks : List Command) (k : Command) → keptAfter kept (ks ++ (k ∷ [])) ≡ keptBy (keptAfter kept ks) k

@@ -24,7 +24,7 @@ use Rattle.rules.specs.Addresses.{accessWrong, rangeWrong}
 use Rattle.rules.specs.Step.{here, rowAt, lengthAt, dwordsAt, pastTheWindow, rangeOutside}
 use Rattle.rules.proofs.Searching.{FirstAt, first-found, never-both}
 use Rattle.rules.proofs.Trying.{fails-not-pass, same-fault, refuse-passes}
-use Rattle.sentences.specs.declared.Detail.the-variants.{Reach}
+use Rattle.clauses.specs.declared.Detail.the-variants.{Reach}
 use Rattle.causes.specs.Causes.{reachOf, reachWith, reachAt}
 use Rattle.causes.proofs.Leading.{reaches}
 

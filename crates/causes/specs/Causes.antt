@@ -12,8 +12,8 @@ use Rattle.rules.specs.Commands.{endRow, startRow}
 use Rattle.rules.specs.Uses.{addressAt, accessAt}
 use Rattle.rules.specs.Step.{rowAt, lengthAt, dwordsAt}
 use Rattle.rules.specs.Records.{commandsIn, wordsFor}
-use Rattle.sentences.specs.declared.Detail.{Detail}
-use Rattle.sentences.specs.declared.Detail.the-variants.{NoMore, InCommand, Reach}
+use Rattle.clauses.specs.declared.Detail.{Detail}
+use Rattle.clauses.specs.declared.Detail.the-variants.{NoMore, InCommand, Reach}
 
 -- the position behind a command
 abbrev pub behind : Command → ℕ

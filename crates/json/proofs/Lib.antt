@@ -1,4 +1,2 @@
-pub mod Quoting
 pub mod Telling
-pub mod Bounds
 pub mod Unique

@@ -5,17 +5,11 @@ use lib.ListN.{replicate}
 use Rattle.rules.specs.Printout.{digitsOf, bytes}
 use Rattle.lines.specs.Hexadecimal.{hexDigit, hexDigits}
 use Rattle.rules.specs.declared.BaseChoice.the-variants.{StateWindow, NoBase}
-use Rattle.json.specs.declared.Number.the-variants.{Is, Null}
-use Rattle.json.specs.declared.Outcome.the-variants.{Missing, Unlisted}
-use Rattle.json.specs.Strings.{quotedByte, quoted}
-use Rattle.json.specs.Objects.{outcomeText, numberText, dwordText, withAnswer, judged, notJudged, headText, placeText, fileLine}
-use Rattle.json.specs.Objects.{reasonText, reasonsOn, countsText, baseText, totalsLine}
-
-pub strings : (quoted (bytes "say \"a\\b\"") ≡ bytes "say \\\"a\\\\b\\\"")
-    × (quoted (bytes "two\nlines") ≡ bytes "two\\u000Alines")
-    × (quoted (0x1F ∷ 0x20 ∷ 0x7F ∷ 0xC3 ∷ 0xA9 ∷ []) ≡ bytes "\\u001F " ++ (0x7F ∷ 0xC3 ∷ 0xA9 ∷ []))
-unfolding hexDigit hexDigits quotedByte quoted
-strings = (refl, refl, refl)
+use Rattle.members.specs.declared.Number.the-variants.{Is, Null}
+use Rattle.members.specs.declared.Outcome.the-variants.{Unlisted}
+use Rattle.members.specs.Strings.{quotedByte, quoted}
+use Rattle.members.specs.Members.{outcomeText, numberText, dwordText, baseText}
+use Rattle.json.specs.Objects.{withAnswer, judged, notJudged, headText, placeText, fileLine, reasonText, reasonsOn, countsText, totalsLine}
 
 pub an-accepted-file : fileLine (bytes "a \"b\"") (bytes "accepted") (judged (Is 56) (record { reason = 0; window = 0; index = 0; count = 2 }) (Is 7))
     ≡ bytes "{\"name\":\"a \\\"b\\\"\",\"size\":56,\"verdict\":\"accepted\",\"reason\":0,\"words\":\"accepted\",\"window\":0,\"index\":0,\"dword\":null,\"count\":2}\n"

@@ -6,37 +6,19 @@ use lib.ListN.{drop}
 use lib.Dec.{eqb}
 use Rattle.rules.specs.declared.Answer.{Answer}
 use Rattle.rules.specs.declared.BaseChoice.{BaseChoice}
-use Rattle.rules.specs.declared.BaseChoice.the-variants.{StateWindow, NoBase}
 use Rattle.rules.specs.Printout.{decimal, bytes}
-use Rattle.lines.specs.Hexadecimal.{hexDigits}
-use Rattle.json.specs.declared.Number.{Number}
-use Rattle.json.specs.declared.Number.the-variants.{Is, Null}
-use Rattle.json.specs.declared.Outcome.{Outcome}
-use Rattle.json.specs.declared.Outcome.the-variants.{Accepted, Refused, Unread, Missing, Unlisted}
+use Rattle.members.specs.declared.Number.{Number}
+use Rattle.members.specs.declared.Number.the-variants.{Is, Null}
+use Rattle.members.specs.declared.Outcome.{Outcome}
+use Rattle.members.specs.declared.Outcome.the-variants.{Accepted, Refused}
+use Rattle.members.specs.Strings.{quoted}
+use Rattle.members.specs.Members.{outcomeText, numberText, dwordText, baseText}
 use Rattle.json.specs.declared.Told.{Told}
 use Rattle.json.specs.declared.Totals.{Totals}
-use Rattle.json.specs.Strings.{quoted}
 
 -- the rules that are checked: document 01 with the requests that have landed, by number. Each landing changes it, here and in `RULES`
 abbrev pub rulesText : List ℕ
 rulesText = bytes "01+1+2+3+4+5+6+7"
-
-unfoldable pub outcomeText : Outcome → List ℕ
-outcomeText Accepted = bytes "accepted"
-outcomeText Refused = bytes "refused"
-outcomeText Unread = bytes "unread"
-outcomeText Missing = bytes "missing"
-outcomeText Unlisted = bytes "unlisted"
-
--- a number, or null
-unfoldable pub numberText : Number → List ℕ
-numberText (Is n) = decimal n
-numberText Null = bytes "null"
-
--- a dword in eight hexadecimal digits, or null
-unfoldable pub dwordText : Number → List ℕ
-dwordText (Is n) = bytes "\"" ++ hexDigits 8 n ++ bytes "\""
-dwordText Null = bytes "null"
 
 -- what is told of an answer
 unfoldable pub withAnswer : Outcome → Number → Answer → Number → Told
@@ -100,11 +82,6 @@ countsText t =
     (bytes "{\"accepted\":" ++ decimal (t .accepted)) ++ (bytes ",\"refused\":" ++ decimal (t .refused))
     ++ (bytes ",\"unread\":" ++ decimal (t .unread)) ++ (bytes ",\"missing\":" ++ decimal (t .missing))
     ++ (bytes ",\"unlisted\":" ++ decimal (t .unlisted))
-
--- request 5: the base that the captures were judged by
-unfoldable pub baseText : BaseChoice → List ℕ
-baseText StateWindow = bytes "state"
-baseText NoBase = bytes "none"
 
 -- THE LINE of the totals. The counts of the reasons stand by their numbers, from 0 on, which is no reason
 unfoldable pub totalsLine : Totals → List ℕ → BaseChoice → List ℕ

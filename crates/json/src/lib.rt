@@ -1,41 +1,28 @@
 // What audit says for other programs: the line of a file, and the line of the totals, each an object of JSON.
-use crate::parts::put_base;
-use crate::parts::put_dword;
-use crate::parts::put_member;
-use crate::parts::put_number;
-use crate::parts::put_outcome;
-use crate::parts::put_string;
 use crate::reasons::put_reasons;
 use lines::LINE_BYTES;
 use lines::put_text;
+use members::Number;
+use members::Outcome;
+use members::put_base;
+use members::put_dword;
+use members::put_member;
+use members::put_number;
+use members::put_outcome;
+use members::put_string;
 use rules::Answer;
 use rules::BaseChoice;
 ghost use mathlib.Core.Path.{_≡_};
 ghost use Prim.Native.Nat.{_+_, _≤_};
 ghost use lib.ListN.{length};
 ghost use Rattle.lines.specs.Lines.{Put, Line};
-ghost use Rattle.json.specs.Strings.{quoted};
+ghost use Rattle.members.specs.Strings.{quoted};
 ghost use Rattle.json.specs.Objects.{withAnswer, judged, notJudged, headText, placeText, fileLine, countsText, totalsLine};
 
-mod parts;
 mod reasons;
 
 // The rules that are checked: document 01, and the requests that have landed, by number. Each landing changes it, here and in the definition.
 pub const RULES: [u8; 16] = *b"01+1+2+3+4+5+6+7";
-
-// A number, or null.
-pub enum Number {
-    Is(u64),
-    Null,
-}
-
-pub enum Outcome {
-    Accepted,
-    Refused,
-    Unread,
-    Missing,
-    Unlisted,
-}
 
 // What is told of a file in numbers.
 pub struct Told {

@@ -1,8 +1,8 @@
 // The reasons of the totals: each that refused a file, by its number, with how many.
-use crate::parts::put_number;
 use lines::MOST_DIGITS;
 use lines::put_digits;
 use lines::put_text;
+use members::put_number;
 ghost use mathlib.Core.Path.{_≡_};
 ghost use Prim.Native.Nat.{_+_, _*_, _≤_};
 ghost use mathlib.Core.Bool.{cond};

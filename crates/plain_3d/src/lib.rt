@@ -91,13 +91,17 @@ fn seen_by_header(batch: &[u32], at: usize, w: Windows, level: Level) -> Seen
     }
 }
 
-// "type 3 by 31:16".
+// "type 3 by 31:16". The topology is asked for first, as `rows` does.
 fn seen_of_type_3(batch: &[u32], at: usize, w: Windows) -> Seen
     requires { ⌜ (at < length (now batch)) × (OfType3 (now batch) at) ⌝ }
     ensures { λ r. ⌜ Sees w (now (batch .entry)) at First r ⌝ }
 {
     let header = batch[at];
-    match header / 0x1_0000 {
+    let key = header / 0x1_0000;
+    if key == 0x784B {
+        return found(TOPOLOGY_ROW, 2, type_3::topology(from(batch, at)));
+    }
+    match key {
         0x7A00 => found(PIPE_ROW, 6, type_3::pipe(w, from(batch, at))),
         0x6904 => found(SELECT_ROW, 1, type_3::select(header)),
         0x6101 => found(BASE_ROW, 16, type_3::base(from(batch, at))),
@@ -116,7 +120,6 @@ fn seen_of_type_3(batch: &[u32], at: usize, w: Windows) -> Seen
             5,
             type_3::index_buffer(w, from(batch, at)),
         ),
-        0x784B => found(TOPOLOGY_ROW, 2, type_3::topology(from(batch, at))),
         0x7823 => found(VIEWPORT_ROW, 2, type_3::viewport(from(batch, at))),
         0x780E => found(COLOUR_ROW, 2, type_3::colour(from(batch, at))),
         0x7B00 => found(PRIMITIVE_ROW, 7, type_3::primitive(from(batch, at))),

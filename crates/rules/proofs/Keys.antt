@@ -10,7 +10,7 @@ use lib.ListN.{length, take, drop}
 use lib.Dec.{eqb, leb, ltb, lit<}
 use borrow.Author.Tests.{eq-eqb, ne-eqb, leb-false, ltb-true, ltb-false}
 use Rattle.rules.specs.Words.{field, some}
-use Rattle.rules.specs.Commands.{Row, rows, keyOf, rowFrom, rowOf, rowCount}
+use Rattle.rules.specs.Commands.{Row, rows, theRow, topologyRow, keyOf, rowFrom, rowOf, rowCount}
 use Rattle.rules.proofs.Searching.{some-left, some-right}
 
 -- the shape of what a `match` over rows' keys, told in such units, leaves its last arm
@@ -31,6 +31,18 @@ others-unkeyed before unit key (r ∷ rs) h o =
     let q = others-unkeyed (before × (key ≡ r .key / unit → ⊥)) unit key rs h o in
     let n = ne-eqb (key * unit) (r .key) (λ e. q .0 .1 (sym (mul-div-cancel key h) ∙ ap (λ (k : ℕ). k / unit) e)) in
     (q .0 .0, rw (n, q .1))
+
+-- one that was asked for before the others, wherever it stands among them
+others-after : (before since : Type 0) (unit key : ℕ) (rs : List Row) → (before → since) → Others before unit rs key
+    → Others since unit rs key
+others-after before since unit key [] f o = f o
+others-after before since unit key (r ∷ rs) f o =
+    others-after (before × (key ≡ r .key / unit → ⊥)) (since × (key ≡ r .key / unit → ⊥)) unit key rs (λ p. (f (p .0), p .1)) o
+
+others-with : (before : Type 0) (unit key : ℕ) (left : List Row) (r : Row) (right : List Row) → (key ≡ r .key / unit → ⊥)
+    → Others before unit (left ++ right) key → Others before unit (left ++ r ∷ right) key
+others-with before unit key [] r right n o = others-after before (before × (key ≡ r .key / unit → ⊥)) unit key right (λ p. (p, n)) o
+others-with before unit key (x ∷ left) r right n o = others-with (before × (key ≡ x .key / unit → ⊥)) unit key left r right n o
 
 -- where theirs all lie above it, and where they all lie below it
 above-unkeyed : (key low : ℕ) (rs : List Row) → key < low → some (λ r. ltb (r .key) low) rs ≡ false → keyed key rs ≡ false
@@ -70,8 +82,13 @@ above-0 : (key : ℕ) → 2 ^ 29 ≤ key → 7 + rowFrom key (drop 7 rows) ≡ r
 unfolding some rows
 above-0 key h = no-type-0 key (below-unkeyed key (2 ^ 29) (take 7 rows) h refl)
 
-pub unknown-3 : (key : ℕ) → Others (Unit {0}) (2 ^ 16) (drop 7 rows) key → rowCount ≡ 7 + rowFrom (key * 2 ^ 16) (drop 7 rows)
-unknown-3 key o = no-type-3 (key * 2 ^ 16) (others-unkeyed (Unit {0}) (2 ^ 16) key (drop 7 rows) (lit< tt) o .1)
+-- no row of type 3 has the key: the topology's was asked for first
+pub unknown-3 : (key : ℕ) → (key ≡ theRow topologyRow .key / 2 ^ 16 → ⊥)
+    → Others (Unit {0}) (2 ^ 16) (take 6 (drop 7 rows) ++ drop 14 rows) key → rowCount ≡ 7 + rowFrom (key * 2 ^ 16) (drop 7 rows)
+unfolding rows theRow
+unknown-3 key n o =
+    let all = others-with (Unit {0}) (2 ^ 16) key (take 6 (drop 7 rows)) (theRow topologyRow) (drop 14 rows) n o in
+    no-type-3 (key * 2 ^ 16) (others-unkeyed (Unit {0}) (2 ^ 16) key (drop 7 rows) (lit< tt) all .1)
 
 unknown-0 : (key : ℕ) → key < 64 → Others (Unit {0}) (2 ^ 23) (take 7 rows) key → rowCount ≡ rowFrom (key * 2 ^ 23) rows
 unknown-0 key h o =

@@ -7,9 +7,10 @@ use Rattle.rules.specs.declared.Answer.{Answer}
 use Rattle.rules.specs.declared.BaseChoice.{BaseChoice}
 use Rattle.lines.specs.Lines.{Line}
 use Rattle.lines.proofs.Unique.{one-line}
-use Rattle.sentences.specs.declared.Unread.{Unread}
-use Rattle.sentences.specs.declared.Detail.{Detail}
-use Rattle.sentences.specs.Lines.{refusedWords, unreadWords, acceptedLine, refusedLine, unreadLine, unlistedLine, reasonLine, unlistedTotal, totalsLine, writingLine}
+use Rattle.clauses.specs.declared.Unread.{Unread}
+use Rattle.clauses.specs.declared.Detail.{Detail}
+use Rattle.clauses.specs.Clauses.{refusedWords, unreadWords}
+use Rattle.sentences.specs.Lines.{acceptedLine, refusedLine, unreadLine, unlistedLine, reasonLine, unlistedTotal, totalsLine, writingLine}
 use Rattle.phrases.specs.Words.{commandWords}
 
 module _ {old new new′ : List ℕ} {r r′ : ℕ} where

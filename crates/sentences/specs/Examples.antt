@@ -5,12 +5,13 @@ use Rattle.rules.specs.declared.BaseChoice.the-variants.{StateWindow, NoBase}
 use Rattle.rules.specs.declared.Within.the-variants.{ScratchOnly}
 use Rattle.rules.specs.Commands.{storeRow, setRegistersRow}
 use Rattle.rules.specs.Printout.{digitsOf, bytes}
-use Rattle.sentences.specs.declared.Unread.the-variants.{NoSuchFile, Folder, Other}
-use Rattle.sentences.specs.declared.Detail.the-variants.{NoMore, InCommand, Reach, HasBytes, HasTooMany}
+use Rattle.clauses.specs.declared.Unread.the-variants.{NoSuchFile, Folder}
+use Rattle.clauses.specs.declared.Detail.the-variants.{NoMore, InCommand, Reach, HasBytes}
 use Rattle.lines.specs.Hexadecimal.{hexDigit, hexDigits}
-use Rattle.phrases.specs.Words.{wordsIn, reasonTable, writingTable, commandTable, accessTable, withinWords, errorTable}
-use Rattle.sentences.specs.Lines.{commandsText, windowText, dwordText, placeText, progressText, acceptedLine, refusedLine, unreadLine, baseText, totalsLine, writingLine}
-use Rattle.sentences.specs.Lines.{bytesText, commandText, addressText, reachText, sizeText, detailText, refusedWords, errorText, unreadWords, isMissing}
+use Rattle.phrases.specs.Words.{wordsIn, reasonTable, writingTable, commandTable, accessTable, withinWords}
+use Rattle.clauses.specs.Clauses.{commandsText, windowText, dwordText, placeText, progressText, bytesText, commandText, addressText, reachText, sizeText, detailText}
+use Rattle.clauses.specs.Clauses.{refusedWords, unreadWords, isMissing, baseText}
+use Rattle.sentences.specs.Lines.{acceptedLine, refusedLine, unreadLine, totalsLine, writingLine}
 
 -- a capture that is accepted
 pub an-accepted-line : acceptedLine (bytes "a.capture") 214 ≡ bytes "a.capture: accepted, 214 commands\n"
@@ -53,18 +54,10 @@ unfolding digitsOf hexDigit hexDigits wordsIn reasonTable commandsText windowTex
 a-line-of-a-loop = refl
 
 -- number 19, by the file's size
-pub a-line-of-an-empty-file : detailText (HasBytes 0) ≡ bytes ": it is empty"
-unfolding sizeText detailText
-a-line-of-an-empty-file = refl
-
 pub a-line-of-a-size : refusedLine (bytes "a.capture") (record { reason = 19; window = 0; index = 0; count = 0 }) 0 (HasBytes 39) ≡
     bytes "a.capture: refused, 19: the file is shorter than its trailer or longer than any capture: it has 39 bytes\n"
 unfolding digitsOf wordsIn reasonTable progressText bytesText sizeText detailText refusedLine refusedWords
 a-line-of-a-size = refl
-
-pub a-line-of-a-pipe : detailText HasTooMany ≡ bytes ": it has over 32,808 bytes"
-unfolding detailText
-a-line-of-a-pipe = refl
 
 -- a file that is not there, and one that was not read
 pub a-missing-line : unreadLine (bytes "a.capture") NoSuchFile ≡ bytes "a.capture: missing: there is no such file\n"
@@ -74,15 +67,6 @@ a-missing-line = refl
 pub an-unread-line : unreadLine (bytes "a.capture") Folder ≡ bytes "a.capture: unread: it is a folder\n"
 unfolding unreadWords isMissing unreadLine
 an-unread-line = refl
-
--- an error that the table has words for, and one by its number
-pub an-error-with-words : unreadWords (Other 5) ≡ bytes "it cannot be read: Input/output error"
-unfolding unreadWords errorText wordsIn errorTable
-an-error-with-words = refl
-
-pub an-error-by-number : unreadWords (Other 117) ≡ bytes "it cannot be read: error 117"
-unfolding digitsOf unreadWords errorText
-an-error-by-number = refl
 
 -- the last line, by either base
 pub a-totals-line : totalsLine 2 1 0 0 StateWindow ≡ bytes "2 accepted, 1 refused, 0 unread, 0 missing; base: state window\n"

@@ -1,12 +1,14 @@
 // What audit says of a capture, in plain words: the line of a file, and the line of the totals. And what compose says of a line that is refused.
-use crate::details::put_refusal;
-use crate::parts::put_base;
-use crate::parts::put_both;
-use crate::parts::put_commands;
-use crate::parts::put_count;
-use crate::parts::put_progress;
-use crate::why::put_unread;
-use crate::why::put_verdict;
+use clauses::Detail;
+use clauses::Unread;
+use clauses::details::put_refusal;
+use clauses::parts::put_base;
+use clauses::parts::put_both;
+use clauses::parts::put_commands;
+use clauses::parts::put_count;
+use clauses::parts::put_progress;
+use clauses::why::put_unread;
+use clauses::why::put_verdict;
 use lines::LINE_BYTES;
 use lines::MOST_DIGITS;
 use lines::put_byte;
@@ -18,57 +20,15 @@ use phrases::reason_row;
 use phrases::writing_row;
 use rules::Answer;
 use rules::BaseChoice;
-use rules::Within;
 ghost use Prim.Native.Nat.{_≤_};
-ghost use mathlib.Core.Path.{_≡_};
 ghost use lib.ListN.{length};
 ghost use Rattle.lines.specs.Lines.{Line, nameBytes};
-ghost use Rattle.sentences.specs.Lines.{refusedWords, unreadWords, isMissing, acceptedLine, refusedLine, unreadLine, unlistedLine, reasonLine, unlistedTotal, totalsLine, writingLine};
+ghost use Rattle.clauses.specs.Clauses.{refusedWords, unreadWords};
+ghost use Rattle.sentences.specs.Lines.{acceptedLine, refusedLine, unreadLine, unlistedLine, reasonLine, unlistedTotal, totalsLine, writingLine};
 ghost use Rattle.phrases.specs.Words.{commandWords};
-
-mod details;
-mod parts;
-mod why;
-
-// Why a file was not read.
-pub enum Unread {
-    NoSuchFile,
-    NotAllowed,
-    Folder,
-    NameTooLong,
-    Changed,
-    NoRegularFile,
-    // the system's error, by its number
-    Other(usize),
-}
-
-// What happened at a refusal, beside its reason: the row of the command; for 13 the address that it uses with it, how many bytes, and where
-// they should lie; or the file's size, where that is known.
-pub enum Detail {
-    NoMore,
-    InCommand(usize),
-    Reach(usize, u64, u64, Within),
-    HasBytes(u64),
-    HasTooMany,
-}
 
 // How many bytes there are at most of what is said of a file.
 pub const WORDS_BYTES: usize = 512;
-
-// Whether a file is not there: then it is missing, and else it is unread.
-pub fn is_missing(why: Unread) -> bool
-    ensures { λ r. ⌜ r ≡ isMissing why ⌝ }
-{
-    match why {
-        Unread::NoSuchFile => true,
-        Unread::NotAllowed => false,
-        Unread::Folder => false,
-        Unread::NameTooLong => false,
-        Unread::Changed => false,
-        Unread::NoRegularFile => false,
-        Unread::Other(_) => false,
-    }
-}
 
 // The words of a refusal, from byte 0 on, and their length: what its number means, and what happened.
 pub fn refused_words(words: &mut [u8; WORDS_BYTES], reason: u32, detail: Detail) -> usize

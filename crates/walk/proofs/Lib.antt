@@ -1,1 +1,1 @@
-pub mod Looping
+pub mod Calling

@@ -1,7 +1,7 @@
 -- `tell_short` is safe: the text of a name is as long as a line takes it, also in quotation marks.
 -- Assumes nothing.
 use native.Mathlib.Omega.{arith}
-use Rattle.json.proofs.Bounds.{shown-fits}
+use Rattle.members.proofs.Bounds.{shown-fits}
 use Rattle.lines.proofs.Putting.{line-within}
 use borrow.Author.Needs.{needs}
 use Rattle.audit.proofs.tell_short.Statement.{statement}

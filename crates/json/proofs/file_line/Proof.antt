@@ -4,10 +4,10 @@ use Prim.Native.Nat.{_≤_}
 use native.Mathlib.Omega.{arith}
 use lib.ListN.{length}
 use borrow.Author.Needs.{needs}
-use Rattle.json.specs.Strings.{quoted}
+use Rattle.members.specs.Strings.{quoted}
 use Rattle.json.specs.Objects.{fileLine}
 use Rattle.lines.proofs.Putting.{then, whole}
-use Rattle.json.proofs.Bounds.{text-quoted}
+use Rattle.members.proofs.Bounds.{text-quoted}
 use Rattle.json.proofs.file_line.Statement.{statement}
 use Rattle.json.proofs.file_line.Tie as tie
 

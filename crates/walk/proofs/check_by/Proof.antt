@@ -7,7 +7,7 @@ use Rattle.rules.specs.Windows.{Capture, lengthsOf, windowFault}
 use Rattle.rules.proofs.Places.{window-place}
 use Rattle.rules.proofs.Ranges.{counted}
 use Rattle.walk.specs.Lent.{lentCapture}
-use Rattle.walk.proofs.Looping.{judged, unsound, sound, fitting, captured-is, chosen-small}
+use Rattle.walk.proofs.Calling.{judged, unsound, sound, fitting, captured-is, chosen-small}
 use borrow.Author.Needs.{needs}
 use native.Mathlib.Omega.{arith}
 use Rattle.walk.proofs.check_by.Statement.{statement}

@@ -1,0 +1,2 @@
+pub mod Quoting
+pub mod Bounds
