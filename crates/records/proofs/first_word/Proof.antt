@@ -1,4 +1,4 @@
--- `walk::records::first_word` meets its contract: the sum is the definition, with the level that is given.
+-- `records::first_word` meets its contract: the sum is the definition, with the level that is given.
 -- Assumes nothing.
 use Rattle.rules.specs.Records.{firstWord}
 use borrow.Author.Needs.{needs}

@@ -1,4 +1,4 @@
--- `walk::records::second_word` meets its contract: the sum is the definition.
+-- `records::second_word` meets its contract: the sum is the definition.
 -- Assumes nothing.
 use mathlib.Core.Path.{refl}
 use Rattle.rules.specs.Records.{secondWord}

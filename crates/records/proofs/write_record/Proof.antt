@@ -1,4 +1,4 @@
--- `walk::records::write_record` meets its contract: both words are the command's.
+-- `records::write_record` meets its contract: both words are the command's.
 -- Assumes nothing.
 use borrow.Author.Needs.{needs}
 use Rattle.records.proofs.write_record.Statement.{statement}
