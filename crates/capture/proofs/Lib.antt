@@ -1,4 +1,2 @@
-pub mod Filling
 pub mod Judging
-pub mod Opening
 pub mod Reading

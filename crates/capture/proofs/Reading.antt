@@ -21,8 +21,8 @@ use Rattle.rules.specs.File.{dwordsFrom, batchFrom, batchDwords, stateDwords, f
 use Rattle.rules.proofs.Searching.{some-left, some-right, and-left, and-right}
 use Rattle.rules.proofs.Trying.{all-pass, refuse-passes}
 use Rattle.rules.proofs.Readings.{opened-told}
-use Rattle.capture.specs.Offers.{alone}
-use Rattle.capture.proofs.Filling.{length-dwords}
+use Rattle.opening.specs.Offers.{alone}
+use Rattle.opening.proofs.Filling.{length-dwords}
 
 same-contents : {c d : Contents} → Holds c ≡ Holds d → c ≡ d
 same-contents e = cc

@@ -1,6 +1,5 @@
 // What happened at a refused command: where it stands, told by the records of the commands before it, which it is, and what it reaches.
 use clauses::Detail;
-use commands::addresses::access_of;
 use onward::dword_of;
 use printout::command;
 use rows::group_size;
@@ -10,6 +9,7 @@ use rules::Access;
 use rules::Answer;
 use rules::names::END_ROW;
 use rules::names::START_ROW;
+use uses::access_of;
 use words::dwords::address_at;
 use words::dwords::address_of;
 use words::dwords::dword;

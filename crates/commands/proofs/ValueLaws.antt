@@ -10,9 +10,7 @@ use lib.Dec.{eqb, ltb}
 use borrow.Author.Tests.{eq-eqb, ne-eqb, lt-ltb, le-ltb}
 use Rattle.rules.specs.Words.{some}
 use Rattle.rules.specs.Formats.{surfaceFormats, formatBits}
-use Rattle.rules.specs.declared.Access.the-variants.{Unused}
 use Rattle.rules.specs.Commands.{rowCount}
-use Rattle.rules.specs.Uses.{Uses, noUse, usesByRow, accessOf}
 use Rattle.rules.specs.Values.{Rule, noRule, afterZero, primitiveRule, valueRules, ruleOf}
 
 -- the controls behind the first: a 0 that something follows
@@ -73,11 +71,7 @@ pub behind-first : (d : List ℕ) (k j w : ℕ) → getD d 1 0 / 512 % 2 ≡ 1 �
     → eqb j 6 ≡ primitiveRule d k j w
 behind-first d k j w b n m o p = simp (eq-eqb _ 1 b, ne-eqb j 1 n, ne-eqb w 0 m, ne-eqb j 3 o, ne-eqb j 5 p, and-true)
 
--- past the table's end there is no rule, and no use
+-- past the table's end there is no rule
 pub no-rule : (r : ℕ) (d : List ℕ) (k j w : ℕ) → rowCount ≤ r → false ≡ ruleOf r d k j w
 unfolding ruleOf valueRules
 no-rule r d k j w h = rw (List·getD-eq-default {A = Rule} valueRules noRule h)
-
-pub no-access : (r : ℕ) (d : List ℕ) (k j w : ℕ) → rowCount ≤ r → Unused ≡ accessOf r d k j w
-unfolding accessOf usesByRow
-no-access r d k j w h = rw (List·getD-eq-default {A = Uses} usesByRow noUse h)

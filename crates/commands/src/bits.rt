@@ -8,7 +8,7 @@ ghost use Rattle.rules.specs.Words.{allowed};
 ghost use Rattle.rules.specs.Commands.{rowCount};
 ghost use Rattle.rules.specs.Masks.{allowedOf};
 ghost use Rattle.rows.specs.Masks.{maskTable};
-use crate::addresses::high_used;
+use uses::high_used;
 use words::allowed;
 
 // Whether the dword k, the dword j of its group, has a bit that it may not have: most keep the row's masks, which are lent, and only of the others it is

@@ -9,7 +9,6 @@ ghost use Rattle.rules.specs.Commands.{rowCount};
 ghost use Rattle.rules.specs.Values.{startRule, registerRule, storeRule, pipeRule, vertexBufferRule, indexBufferRule, topologyRule, primitiveRule};
 ghost use Rattle.rules.specs.Values.{afterZero, componentsWrong, vertexElementRule, ruleOf, highWrong, valueWrongOf};
 ghost use Rattle.commands.specs.Ruled.{ruled, ruledBits};
-use crate::addresses::high_used;
 use rules::names::BASE_ROW;
 use rules::names::BLEND_ROW;
 use rules::names::COLOUR_ROW;
@@ -28,6 +27,7 @@ use rules::names::TOPOLOGY_ROW;
 use rules::names::VERTEX_BUFFERS_ROW;
 use rules::names::VERTEX_ELEMENTS_ROW;
 use rules::names::VIEWPORT_ROW;
+use uses::high_used;
 use words::dwords::canonical;
 use words::dwords::dword;
 

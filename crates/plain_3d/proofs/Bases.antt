@@ -17,11 +17,11 @@ use Rattle.rules.specs.Uses.{usesByRow, accessOf, accessAt, addressAt, canonica
 use Rattle.rules.specs.Masks.{masksOf, allowedOf, allowedAt, bitWrong}
 use Rattle.rules.specs.Values.{valueRules, ruleOf, highWrong, valueWrongOf, valueWrong}
 use Rattle.rules.specs.Addresses.{accessWrong, rangeWrong}
-use Rattle.plain_mi.specs.Plain.{firstCoded, wrongOf, bareOf, noWindows, wholeHeader}
-use Rattle.plain_mi.proofs.Bare.{Unasked}
-use Rattle.plain_mi.proofs.Lengths.{listed}
-use Rattle.plain_mi.proofs.Tests.{Test, answered, tested, content, searched-last, passed, stopped}
-use Rattle.plain_mi.proofs.Whole.{whole-decides}
+use Rattle.plain_shared.specs.Plain.{firstCoded, wrongOf, bareOf, noWindows, wholeHeader}
+use Rattle.plain_shared.proofs.Bare.{Unasked}
+use Rattle.plain_shared.proofs.Lengths.{listed}
+use Rattle.plain_shared.proofs.Tests.{Test, answered, tested, content, searched-last, passed, stopped}
+use Rattle.plain_shared.proofs.Whole.{whole-decides}
 use Rattle.plain_3d.proofs.Rows.{base-row}
 
 -- a base is used, or is not, by one bit

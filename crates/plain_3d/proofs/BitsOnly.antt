@@ -20,12 +20,12 @@ use Rattle.rules.specs.Uses.{Uses, noUse, accessOf, isUsed, usedHighOf}
 use Rattle.rules.specs.Values.{Rule, noRule, ruleOf, highWrong, valueWrongOf, valueWrong}
 use Rattle.rules.proofs.Searching.{either, finds-none}
 use Rattle.looks.specs.Looks.{contentOf}
-use Rattle.plain_mi.specs.Plain.{coded, firstCoded, wrongOf, wholeHeader}
+use Rattle.plain_shared.specs.Plain.{coded, firstCoded, wrongOf, wholeHeader}
 use Rattle.plain_3d.specs.Pointer.{pointerOf}
-use Rattle.plain_mi.proofs.Bare.{no-address, no-range}
-use Rattle.plain_mi.proofs.Coding.{alone}
-use Rattle.plain_mi.proofs.Lengths.{listed, as-many, exact-says}
-use Rattle.plain_mi.proofs.Whole.{WholeRow, whole-refuses, head-is, head-fits, first-answers, then-answers}
+use Rattle.plain_shared.proofs.Bare.{no-address, no-range}
+use Rattle.plain_shared.proofs.Coding.{alone}
+use Rattle.plain_shared.proofs.Lengths.{listed, as-many, exact-says}
+use Rattle.plain_shared.proofs.Whole.{WholeRow, whole-refuses, head-is, head-fits, first-answers, then-answers}
 
 -- where no address is used, no dword is a used high dword
 no-high : (r : ℕ) → accessOf r ≡ noUse → (d : List ℕ) (k j : ℕ) → usedHighOf r d k j ≡ false

@@ -1,30 +1,29 @@
 -- The rows of type 3 with one length whose header has no free bits: what the table says of them, and their tests as the code asks them.
 -- Assumes nothing.
-use Prim.Native.Nat.{ℕ, _/_, _%_, _^_, _<_}
+use Prim.Native.Nat.{ℕ, _%_, _^_, _<_}
 use mathlib.Core.Path.{_≡_, refl, sym, ap, _∙_}
-use mathlib.Core.Bool.{Bool, true, false, cond, not, _&&_, _||_, or-false, Bool·not-not}
+use mathlib.Core.Bool.{cond, not, or-false}
 use mathlib.Core.List.{List, [], _∷_}
 use lib.ListN.{getD}
 use lib.Dec.{eqb, lit≤}
 use borrow.Author.Tests.{eq-eqb, ne-eqb}
 use Rattle.rules.specs.declared.Windows.{Windows}
-use Rattle.rules.specs.declared.Within.the-variants.{ScratchOnly, AnyWindow}
-use Rattle.rules.specs.declared.Access.the-variants.{Unused, Reaches}
+use Rattle.rules.specs.declared.Within.the-variants.{ScratchOnly}
 use Rattle.rules.specs.declared.Level.the-variants.{First}
 use Rattle.rules.specs.declared.Reason.the-variants.{ValueBroken}
 use Rattle.rules.specs.Words.{allowed, inGroup}
 use Rattle.rules.specs.Refusals.{numberOf}
 use Rattle.rules.specs.Windows.{fits}
 use Rattle.rules.specs.Formats.{knownTopology}
-use Rattle.rules.specs.Commands.{pipeRow, baseRow, indexBufferRow, topologyRow, rows, theRow, groupSize}
-use Rattle.rules.specs.Uses.{postSync, sized, usesByRow, accessOf, accessAt, pairAddress, addressAt, canonical, isUsed, usedHighOf}
+use Rattle.rules.specs.Commands.{pipeRow, baseRow, topologyRow, rows, theRow, groupSize}
+use Rattle.rules.specs.Uses.{postSync, usesByRow, accessOf, accessAt, pairAddress, addressAt, canonical, usedHighOf}
 use Rattle.rules.specs.Masks.{masksOf, allowedOf, allowedAt, bitWrong}
 use Rattle.rules.specs.Values.{valueRules, ruleOf, highWrong, valueWrongOf, valueWrong}
-use Rattle.rules.specs.Addresses.{accessWrong, rangeWrong}
-use Rattle.plain_mi.specs.Plain.{firstCoded, wrongOf, wholeHeader}
-use Rattle.rules.proofs.Used.{any-dword, used-or-kept}
-use Rattle.plain_mi.proofs.Tests.{Test, answered, tested, content, searched-last}
-use Rattle.plain_mi.proofs.Whole.{WholeRow, head-is, whole-decides}
+use Rattle.rules.specs.Addresses.{rangeWrong}
+use Rattle.plain_shared.specs.Plain.{firstCoded, wrongOf, wholeHeader}
+use Rattle.rules.proofs.Used.{any-dword}
+use Rattle.plain_shared.proofs.Tests.{Test, answered, tested, content, searched-last}
+use Rattle.plain_shared.proofs.Whole.{WholeRow, head-is, whole-decides}
 
 pub pipe-row : WholeRow pipeRow 0x7A000004
 unfolding rows theRow
@@ -33,10 +32,6 @@ pipe-row = record { known = lit≤ tt; total = refl; key = refl; free = refl }
 pub base-row : WholeRow baseRow 0x6101000E
 unfolding rows theRow
 base-row = record { known = lit≤ tt; total = refl; key = refl; free = refl }
-
-pub index-buffer-row : WholeRow indexBufferRow 0x780A0003
-unfolding rows theRow
-index-buffer-row = record { known = lit≤ tt; total = refl; key = refl; free = refl }
 
 pub topology-row : WholeRow topologyRow 0x784B0000
 unfolding rows theRow
@@ -63,29 +58,6 @@ pipe-tests w d =
 -- and these without
 abbrev pub unsynced-tests : List ℕ → List Test
 unsynced-tests d = (not (allowed (getD d 3 0) 0x0000FFFF), 2563) ∷ []
-
--- row 12
-abbrev pub index-buffer-tests : Windows → List ℕ → List Test
-index-buffer-tests w d =
-    (not (allowed (getD d 1 0) 0x0000037F), 2561)
-    ∷ (not (not (eqb (getD d 4 0) 0) || allowed (getD d 3 0) 0x0000FFFF), 2563)
-    ∷ (eqb (getD d 1 0 / 0x100 % 4) 3, 3073)
-    ∷ (not (not (not (eqb (getD d 4 0) 0) && not (canonical (getD d 3 0)))), 3075)
-    ∷ (not (not (accessWrong w (pairAddress (getD d 2 0) (getD d 3 0)) (sized (getD d 4 0)))), 3330)
-    ∷ []
-
--- its header keeps its mask
-index-header-kept : allowed 0x780A0003 0x780A00FF ≡ true
-unfolding allowed
-index-header-kept = refl
-
--- a range of so many bytes is used where there are any
-pub sized-used : (size : ℕ) → isUsed (sized size) ≡ not (eqb size 0)
-sized-used size = by (eqb size 0)
-  where
-    by : (none : Bool) → isUsed (cond none Unused (Reaches size AnyWindow)) ≡ not none
-    by true = refl
-    by false = refl
 
 -- row 13
 abbrev pub topology-tests : List ℕ → List Test
@@ -114,25 +86,6 @@ module _ (w : Windows) (rest : List ℕ) where
   unfolding tested bitWrong allowedAt allowedOf rows theRow groupSize inGroup
       valueRules ruleOf highWrong valueWrongOf valueWrong usesByRow accessOf accessAt usedHighOf rangeWrong addressAt
   pipe-synced n third = rw (ne-eqb _ _ n, any-dword _ third, or-false (not (canonical (getD rest 3 0))))
-
-  pub index-buffer-tested : {x : ℕ} → x ≡ wholeHeader rest 0x780A0003 → x ≡ 0 → getD rest 2 0 < 2 ^ 32 → getD rest 3 0 < 2 ^ 32 → getD rest 4 0 < 2 ^ 32
-      → answered (index-buffer-tests w rest) 0 ≡ wrongOf w indexBufferRow rest First
-  unfolding content tested bitWrong allowedAt allowedOf masksOf rows theRow groupSize inGroup
-      valueRules ruleOf highWrong valueWrongOf valueWrong usesByRow accessOf accessAt usedHighOf rangeWrong addressAt
-  index-buffer-tested e z second third fourth =
-      let used = not (eqb (getD rest 4 0) 0) in
-      rw (Bool·not-not (used && not (canonical (getD rest 3 0))), Bool·not-not)
-      (sym
-      (whole-decides index-buffer-row w rest First e z
-      ∙ rw (
-        head-is rest _ e z,
-        index-header-kept,
-        any-dword _ second,
-        any-dword _ fourth,
-        sized-used (getD rest 4 0),
-        used-or-kept used (getD rest 3 0) 0xFFFF third,
-        or-false (used && not (canonical (getD rest 3 0))),
-      )))
 
   pub topology-tested : {x : ℕ} → x ≡ wholeHeader rest 0x784B0000 → x ≡ 0 → answered (topology-tests rest) 0 ≡ wrongOf w topologyRow rest First
   unfolding content tested bitWrong allowed allowedAt allowedOf masksOf rows theRow groupSize inGroup

@@ -1,4 +1,2 @@
-pub mod Seeing
 pub mod Stray
 pub mod Pointer
-pub mod Codes

@@ -4,7 +4,7 @@ use mathlib.Core.Bool.{cond, not}
 use mathlib.Core.List.{List}
 use lib.ListN.{getD}
 use Rattle.rules.specs.Words.{allowed}
-use Rattle.plain_mi.specs.Plain.{wholeHeader, orThen}
+use Rattle.plain_shared.specs.Plain.{wholeHeader, orThen}
 
 -- 8 to 10 of it
 unfoldable pub pointerOf : List ℕ → ℕ → ℕ → ℕ

@@ -24,11 +24,11 @@ use Rattle.rules.specs.Masks.{masksOf, allowedOf, allowedAt, bitWrong}
 use Rattle.rules.specs.Values.{valueRules, ruleOf, highWrong, valueWrongOf, valueWrong}
 use Rattle.rules.specs.Addresses.{rangeWrong}
 use Rattle.rules.proofs.Searching.{either}
-use Rattle.plain_mi.specs.Plain.{wrongOf, wholeHeader, orThen, registerOf}
+use Rattle.plain_shared.specs.Plain.{wrongOf, wholeHeader, orThen, registerOf}
 use Rattle.rules.proofs.Used.{any-dword}
-use Rattle.plain_mi.proofs.Lengths.{listed}
-use Rattle.plain_mi.proofs.Tests.{Test, answered, tested, content, searched, searched-last, passed, stopped}
-use Rattle.plain_mi.proofs.Whole.{WholeRow, whole-refuses, head-is, head-fits, whole-decides, first-answers, then-answers, both-zero}
+use Rattle.plain_shared.proofs.Lengths.{listed}
+use Rattle.plain_shared.proofs.Tests.{Test, answered, tested, content, searched, searched-last, passed, stopped}
+use Rattle.plain_shared.proofs.Whole.{WholeRow, whole-refuses, head-is, head-fits, whole-decides, first-answers, then-answers, both-zero}
 
 -- 10 and 12 of either, with what comes behind them
 abbrev both : List ℕ → ℕ → ℕ

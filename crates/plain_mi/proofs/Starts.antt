@@ -16,10 +16,10 @@ use Rattle.rules.specs.Masks.{masksOf, allowedOf, allowedAt, bitWrong}
 use Rattle.rules.specs.Values.{valueRules, ruleOf, highWrong, valueWrongOf, valueWrong}
 use Rattle.rules.specs.Addresses.{rangeWrong}
 use Rattle.rules.specs.Step.{nested}
-use Rattle.plain_mi.specs.Plain.{wrongOf}
-use Rattle.plain_mi.proofs.Tests.{Test, answered, tested, content, whole}
+use Rattle.plain_shared.specs.Plain.{wrongOf}
+use Rattle.plain_shared.proofs.Tests.{Test, answered, tested, content, whole}
 use Rattle.rules.proofs.Used.{any-dword}
-use Rattle.plain_mi.proofs.Lengths.{exact-wrong, exact-right, exact-long, exact-past, length-says}
+use Rattle.plain_shared.proofs.Lengths.{exact-wrong, exact-right, exact-long, exact-past, length-says}
 
 -- its tests
 abbrev pub start-tests : Windows → List ℕ → Level → List Test

@@ -19,10 +19,10 @@ use Rattle.rules.specs.Uses.{usesByRow, accessOf, accessAt, pairAddress, addres
 use Rattle.rules.specs.Masks.{masksOf, allowedOf, allowedAt, bitWrong}
 use Rattle.rules.specs.Values.{valueRules, ruleOf, highWrong, valueWrongOf, valueWrong}
 use Rattle.rules.specs.Addresses.{rangeWrong}
-use Rattle.plain_mi.specs.Plain.{wrongOf, otherHeader}
-use Rattle.plain_mi.proofs.Tests.{Test, answered, tested, content, Own}
+use Rattle.plain_shared.specs.Plain.{wrongOf, otherHeader}
+use Rattle.plain_shared.proofs.Tests.{Test, answered, tested, content, Own}
 use Rattle.rules.proofs.Used.{header-bits}
-use Rattle.plain_mi.proofs.Headers.{not-between, other}
+use Rattle.plain_shared.proofs.Headers.{not-between, other}
 use Rattle.rules.proofs.Used.{any-dword}
 
 -- a header in this row that keeps its mask and whose field is right is one of the two

@@ -1,4 +1,2 @@
-// The plain engine's first half: the commands of type 0, and what all its rows share.
-pub mod heads;
-pub mod numbers;
+// The plain engine: the commands of type 0.
 pub mod type_0;

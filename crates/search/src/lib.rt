@@ -8,7 +8,6 @@ ghost use Rattle.rules.specs.Formats.{surfaceFormats};
 ghost use Rattle.rules.specs.Commands.{rowCount, groupSize};
 ghost use Rattle.rows.specs.Masks.{maskTable};
 ghost use Rattle.search.specs.Search.{wrongAt, wrong};
-use commands::addresses::access_of;
 use commands::bits::bit_wrong;
 use commands::values::has_rule;
 use commands::values::value_wrong;
@@ -16,14 +15,14 @@ use rows::group_size;
 use rules::Found;
 use rules::Windows;
 use rules::names::ROWS;
+use uses::access_of;
 use windows::access_wrong;
 use words::dwords::address_at;
 
-mod by_row;
-pub mod looked;
+pub mod by_row;
 
 // What a search over a command's dwords looks for: a bit that is not allowed (10), a value rule broken (12), a range that does not fit (13).
-enum Sought {
+pub enum Sought {
     Bits,
     Values,
     Ranges,

@@ -24,8 +24,8 @@ pub fn looked(
     ensures { λ r. ⌜ r ≡ lookOf w (now (batch .entry)) at level ⌝ }
 {
     if plainly {
-        plain_3d::looked(batch, w, at, level)
+        plain_look::looked(batch, w, at, level)
     } else {
-        search::looked::looked(batch, w, at, level, masks, formats)
+        table_look::looked(batch, w, at, level, masks, formats)
     }
 }

@@ -4,8 +4,8 @@ use Prim.Native.Nat.{_≤_}
 use lib.ListN.{length}
 use borrow.Author.Needs.{needs}
 use Rattle.rules.specs.declared.Level.the-variants.{First}
-use Rattle.plain_mi.specs.Plain.{noWindows}
-use Rattle.plain_mi.proofs.Whole.{whole-refuses, head-is, head-fits}
+use Rattle.plain_shared.specs.Plain.{noWindows}
+use Rattle.plain_shared.proofs.Whole.{whole-refuses, head-is, head-fits}
 use Rattle.plain_3d.proofs.Rows.{base-row}
 use Rattle.plain_3d.proofs.Bases.{bit-says, value-says}
 use Rattle.plain_3d.proofs.type_3.base.Statement.{statement}

@@ -11,8 +11,8 @@ use Rattle.rules.specs.Words.{bit, some, allowed, inGroup, firstFrom}
 use Rattle.rules.specs.Commands.{baseRow, rows, theRow, groupSize}
 use Rattle.rules.specs.Uses.{usesByRow, accessOf, usedHighOf}
 use Rattle.rules.specs.Masks.{masksOf, allowedOf, allowedAt, bitWrong}
-use Rattle.plain_mi.specs.Plain.{firstCoded}
-use Rattle.plain_mi.proofs.Grouping.{InOrder, first-in-order, former-says, latter-says}
+use Rattle.plain_shared.specs.Plain.{firstCoded}
+use Rattle.plain_shared.proofs.Grouping.{InOrder, first-in-order, former-says, latter-says}
 use Rattle.plain_3d.specs.Stray.{strayFrom}
 use Rattle.plain_3d.proofs.Bases.{used-if}
 use Rattle.plain_3d.proofs.type_3.base_bits.Statement.{statement}

@@ -7,8 +7,8 @@ use borrow.Author.Needs.{needs}
 use Rattle.rules.specs.declared.Reason.the-variants.{ValueBroken}
 use Rattle.rules.specs.Commands.{baseRow}
 use Rattle.rules.specs.Values.{valueWrong}
-use Rattle.plain_mi.specs.Plain.{firstCoded}
-use Rattle.plain_mi.proofs.Tests.{asked, answered, refuses, passes}
+use Rattle.plain_shared.specs.Plain.{firstCoded}
+use Rattle.plain_shared.proofs.Tests.{asked, answered, refuses, passes}
 use Rattle.plain_3d.proofs.Bases.{value-tests, values-tested}
 use Rattle.plain_3d.proofs.type_3.base_values.Statement.{statement}
 use Rattle.plain_3d.proofs.type_3.base_values.Tie as tie

@@ -5,9 +5,9 @@ use native.Mathlib.Omega.{arith}
 use mathlib.Core.Path.{_≡_}
 use borrow.Author.Needs.{needs}
 use Rattle.rules.specs.Refusals.{numberOf}
-use Rattle.plain_mi.specs.Plain.{coded}
+use Rattle.plain_shared.specs.Plain.{coded}
 use Rattle.plain_3d.specs.Stray.{strayFrom}
-use Rattle.plain_mi.proofs.Tests.{asked}
+use Rattle.plain_shared.proofs.Tests.{asked}
 use Rattle.plain_3d.proofs.type_3.four_bits.Statement.{statement}
 use Rattle.plain_3d.proofs.type_3.four_bits.Tie as tie
 

@@ -11,10 +11,10 @@ use Rattle.rules.specs.declared.Level.the-variants.{First}
 use Rattle.rules.specs.declared.Reason.the-variants.{ValueBroken}
 use Rattle.rules.specs.Commands.{pipeRow}
 use Rattle.rules.specs.Values.{valueWrong}
-use Rattle.plain_mi.specs.Plain.{firstCoded, wrongOf}
-use Rattle.plain_mi.proofs.Fitting.{scratch-holds}
-use Rattle.plain_mi.proofs.Tests.{asked, answered, refuses, passes}
-use Rattle.plain_mi.proofs.Whole.{whole-refuses, head-fits}
+use Rattle.plain_shared.specs.Plain.{firstCoded, wrongOf}
+use Rattle.plain_shared.proofs.Fitting.{scratch-holds}
+use Rattle.plain_shared.proofs.Tests.{asked, answered, refuses, passes}
+use Rattle.plain_shared.proofs.Whole.{whole-refuses, head-fits}
 use Rattle.plain_3d.proofs.Rows.{pipe-row, pipe-bits, pipe-behind, pipe-tests, unsynced-tests, pipe-tested, pipe-unsynced, pipe-synced}
 use Rattle.plain_3d.proofs.type_3.pipe.Statement.{statement}
 use Rattle.plain_3d.proofs.type_3.pipe.Tie as tie

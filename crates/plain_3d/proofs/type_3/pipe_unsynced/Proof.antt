@@ -7,7 +7,7 @@ use Rattle.rules.specs.Refusals.{numberOf}
 use Rattle.rules.specs.Commands.{rows, theRow, groupSize}
 use Rattle.rules.specs.Uses.{usesByRow, accessOf, usedHighOf}
 use Rattle.rules.specs.Values.{valueRules, ruleOf, highWrong, valueWrongOf, valueWrong}
-use Rattle.plain_mi.specs.Plain.{coded}
+use Rattle.plain_shared.specs.Plain.{coded}
 use Rattle.plain_3d.proofs.type_3.pipe_unsynced.Statement.{statement}
 use Rattle.plain_3d.proofs.type_3.pipe_unsynced.Tie as tie
 

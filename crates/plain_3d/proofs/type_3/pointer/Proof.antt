@@ -7,8 +7,8 @@ use lib.ListN.{getD}
 use borrow.Author.Needs.{needs}
 use Rattle.rules.specs.Words.{allowed}
 use Rattle.plain_3d.specs.Pointer.{pointerOf}
-use Rattle.plain_mi.proofs.Tests.{asked, refuses, passes}
-use Rattle.plain_mi.proofs.Whole.{head-fits, first-answers, then-answers}
+use Rattle.plain_shared.proofs.Tests.{asked, refuses, passes}
+use Rattle.plain_shared.proofs.Whole.{head-fits, first-answers, then-answers}
 use Rattle.plain_3d.proofs.type_3.pointer.Statement.{statement}
 use Rattle.plain_3d.proofs.type_3.pointer.Tie as tie
 

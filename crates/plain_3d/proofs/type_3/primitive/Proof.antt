@@ -19,12 +19,12 @@ use Rattle.rules.specs.Values.{valueRules, ruleOf, valueWrong, highWrong, value
 use Rattle.rules.specs.Addresses.{rangeWrong}
 use Rattle.rules.proofs.Tables.{each, at-each}
 use Rattle.looks.specs.Looks.{contentOf}
-use Rattle.plain_mi.specs.Plain.{coded}
+use Rattle.plain_shared.specs.Plain.{coded}
 use Rattle.rules.proofs.Used.{any-dword}
-use Rattle.plain_mi.proofs.Headers.{other-exact}
-use Rattle.plain_mi.proofs.Lengths.{exact-past, exact-says}
-use Rattle.plain_mi.proofs.Tests.{asked}
-use Rattle.plain_mi.proofs.Coding.{alone}
+use Rattle.plain_shared.proofs.Headers.{other-exact}
+use Rattle.plain_shared.proofs.Lengths.{exact-past, exact-says}
+use Rattle.plain_shared.proofs.Tests.{asked}
+use Rattle.plain_shared.proofs.Coding.{alone}
 use Rattle.plain_3d.proofs.type_3.primitive.Statement.{statement}
 use Rattle.plain_3d.proofs.type_3.primitive.Tie as tie
 

@@ -14,8 +14,8 @@ use Rattle.rules.specs.Refusals.{numberOf}
 use Rattle.rules.specs.Commands.{primitiveRow, rows, theRow, groupSize}
 use Rattle.rules.specs.Values.{valueRules, ruleOf, valueWrong, highWrong, valueWrongOf}
 use Rattle.rules.specs.Uses.{usesByRow, accessOf, usedHighOf}
-use Rattle.plain_mi.specs.Plain.{firstCoded}
-use Rattle.plain_mi.proofs.Tests.{Test, answered, tested, searched-last, refuses, passes, one-by-one}
+use Rattle.plain_shared.specs.Plain.{firstCoded}
+use Rattle.plain_shared.proofs.Tests.{Test, answered, tested, searched-last, refuses, passes, one-by-one}
 use Rattle.plain_3d.proofs.type_3.primitive_by_end.Statement.{statement}
 use Rattle.plain_3d.proofs.type_3.primitive_by_end.Tie as tie
 

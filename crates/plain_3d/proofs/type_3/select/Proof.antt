@@ -8,9 +8,9 @@ use Rattle.rules.specs.Words.{allowed}
 use Rattle.rules.specs.Commands.{selectRow, rows, theRow}
 use Rattle.rules.specs.Uses.{usesByRow, accessOf}
 use Rattle.rules.specs.Values.{valueRules, ruleOf}
-use Rattle.plain_mi.specs.Plain.{noWindows}
+use Rattle.plain_shared.specs.Plain.{noWindows}
 use Rattle.rules.proofs.Used.{header-bits}
-use Rattle.plain_mi.proofs.Headers.{other-key, one-dword}
+use Rattle.plain_shared.proofs.Headers.{other-key, one-dword}
 use Rattle.plain_3d.proofs.type_3.select.Statement.{statement}
 use Rattle.plain_3d.proofs.type_3.select.Tie as tie
 

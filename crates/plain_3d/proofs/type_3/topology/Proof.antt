@@ -7,9 +7,9 @@ use lib.ListN.{length, drop}
 use borrow.Author.Needs.{needs}
 use Rattle.rules.specs.declared.Level.the-variants.{First}
 use Rattle.rules.specs.Commands.{topologyRow}
-use Rattle.plain_mi.specs.Plain.{noWindows, bareOf}
-use Rattle.plain_mi.proofs.Tests.{asked, answered, refuses, passes}
-use Rattle.plain_mi.proofs.Whole.{whole-refuses, head-fits}
+use Rattle.plain_shared.specs.Plain.{noWindows, bareOf}
+use Rattle.plain_shared.proofs.Tests.{asked, answered, refuses, passes}
+use Rattle.plain_shared.proofs.Whole.{whole-refuses, head-fits}
 use Rattle.plain_3d.proofs.Rows.{topology-row, topology-tests, topology-tested}
 use Rattle.plain_3d.proofs.type_3.topology.Statement.{statement}
 use Rattle.plain_3d.proofs.type_3.topology.Tie as tie

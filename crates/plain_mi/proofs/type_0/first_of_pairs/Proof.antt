@@ -4,8 +4,8 @@ use Prim.Native.Nat.{_-_}
 use native.Mathlib.Omega.{arith}
 use lib.ListN.{length}
 use Rattle.rules.specs.Commands.{setRegistersRow}
-use Rattle.plain_mi.specs.Plain.{firstBy, noWindows}
-use Rattle.plain_mi.proofs.Grouping.{AtGroup, Turn, by-number, at-first, turn-at, goes-on, stops, all-passed}
+use Rattle.plain_shared.specs.Plain.{firstBy, noWindows}
+use Rattle.plain_shared.proofs.Grouping.{AtGroup, Turn, by-number, at-first, turn-at, goes-on, stops, all-passed}
 use Rattle.plain_mi.proofs.type_0.first_of_pairs.Statement.{statement}
 use Rattle.plain_mi.proofs.type_0.first_of_pairs.Tie as tie
 

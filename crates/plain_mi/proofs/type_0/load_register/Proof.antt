@@ -6,7 +6,7 @@ use mathlib.Core.Path.{refl, _∙_}
 use mathlib.Core.Bool.{true, false}
 use lib.ListN.{length}
 use borrow.Author.Needs.{needs}
-use Rattle.plain_mi.proofs.Fitting.{any-fits}
+use Rattle.plain_shared.proofs.Fitting.{any-fits}
 use Rattle.plain_mi.proofs.Registers.{loads, register-refused, register-fits, addressed}
 use Rattle.plain_mi.proofs.type_0.load_register.Statement.{statement}
 use Rattle.plain_mi.proofs.type_0.load_register.Tie as tie

@@ -7,9 +7,9 @@ use Rattle.rules.specs.declared.Level.the-variants.{First}
 use Rattle.rules.specs.Commands.{noopRow, rows, theRow}
 use Rattle.rules.specs.Uses.{usesByRow, accessOf}
 use Rattle.rules.specs.Values.{valueRules, ruleOf}
-use Rattle.plain_mi.specs.Plain.{noWindows}
+use Rattle.plain_shared.specs.Plain.{noWindows}
 use Rattle.rules.proofs.Used.{header-bits}
-use Rattle.plain_mi.proofs.Headers.{one-dword}
+use Rattle.plain_shared.proofs.Headers.{one-dword}
 use Rattle.plain_mi.proofs.type_0.noop.Statement.{statement}
 use Rattle.plain_mi.proofs.type_0.noop.Tie as tie
 

@@ -12,9 +12,9 @@ use Rattle.rules.specs.Refusals.{numberOf}
 use Rattle.rules.specs.Commands.{setRegistersRow, rows, theRow, groupSize}
 use Rattle.rules.specs.Uses.{usesByRow, accessOf, usedHighOf}
 use Rattle.rules.specs.Masks.{masksOf, bitWrong}
-use Rattle.plain_mi.specs.Plain.{firstCoded}
-use Rattle.plain_mi.proofs.Tests.{asked, refuses, passes, in-two}
-use Rattle.plain_mi.proofs.Dwords.{bit-in, free-in}
+use Rattle.plain_shared.specs.Plain.{firstCoded}
+use Rattle.plain_shared.proofs.Tests.{asked, refuses, passes, in-two}
+use Rattle.plain_shared.proofs.Dwords.{bit-in, free-in}
 use Rattle.plain_mi.proofs.type_0.pair_bit.Statement.{statement}
 use Rattle.plain_mi.proofs.type_0.pair_bit.Tie as tie
 

@@ -12,9 +12,9 @@ use Rattle.rules.specs.Refusals.{numberOf}
 use Rattle.rules.specs.Commands.{setRegistersRow, rows, theRow, groupSize}
 use Rattle.rules.specs.Uses.{usesByRow, accessOf, usedHighOf}
 use Rattle.rules.specs.Values.{valueRules, ruleOf, valueWrong}
-use Rattle.plain_mi.specs.Plain.{firstCoded}
-use Rattle.plain_mi.proofs.Tests.{asked, refuses, passes, in-two}
-use Rattle.plain_mi.proofs.Dwords.{value-in}
+use Rattle.plain_shared.specs.Plain.{firstCoded}
+use Rattle.plain_shared.proofs.Tests.{asked, refuses, passes, in-two}
+use Rattle.plain_shared.proofs.Dwords.{value-in}
 use Rattle.plain_mi.proofs.type_0.pair_value.Statement.{statement}
 use Rattle.plain_mi.proofs.type_0.pair_value.Tie as tie
 

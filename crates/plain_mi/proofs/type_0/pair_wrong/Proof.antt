@@ -6,8 +6,8 @@ use borrow.Author.Tests.{eq-eqb, ne-eqb}
 use Rattle.rules.specs.declared.Reason.the-variants.{RangeOutside}
 use Rattle.rules.specs.Commands.{setRegistersRow}
 use Rattle.rules.specs.Uses.{usesByRow, accessOf}
-use Rattle.plain_mi.specs.Plain.{firstBy, noWindows}
-use Rattle.plain_mi.proofs.Cleanness.{free-coded, no-ranges}
+use Rattle.plain_shared.specs.Plain.{firstBy, noWindows}
+use Rattle.plain_shared.proofs.Cleanness.{free-coded, no-ranges}
 use Rattle.plain_mi.proofs.type_0.pair_wrong.Statement.{statement}
 use Rattle.plain_mi.proofs.type_0.pair_wrong.Tie as tie
 

@@ -8,8 +8,8 @@ use Rattle.rules.specs.Words.{inGroup}
 use Rattle.rules.specs.Uses.{usesByRow, accessOf, accessAt, usedHighOf}
 use Rattle.rules.specs.Values.{valueRules, ruleOf, highWrong, valueWrongOf, valueWrong}
 use Rattle.rules.specs.Addresses.{rangeWrong}
-use Rattle.plain_mi.specs.Plain.{noWindows}
-use Rattle.plain_mi.proofs.Content.{HeaderRight, all-clean, bit-first, value-last}
+use Rattle.plain_shared.specs.Plain.{noWindows}
+use Rattle.plain_shared.proofs.Content.{HeaderRight, all-clean, bit-first, value-last}
 use Rattle.plain_mi.proofs.type_0.pairs.Statement.{statement}
 use Rattle.plain_mi.proofs.type_0.pairs.Tie as tie
 

@@ -6,9 +6,9 @@ use mathlib.Core.Path.{refl, sym, _∙_}
 use lib.ListN.{length}
 use Rattle.rules.specs.Commands.{setRegistersRow}
 use Rattle.rules.specs.Uses.{usesByRow, accessOf}
-use Rattle.plain_mi.specs.Plain.{freeFrom, faulty, noWindows}
-use Rattle.plain_mi.proofs.Cleanness.{bits-fail, values-fail, ranges-decide, no-ranges}
-use Rattle.plain_mi.proofs.Grouping.{AtGroup, Turn, free-in-order, at-first, turn-at, fails-there, clean-there, all-passed}
+use Rattle.plain_shared.specs.Plain.{freeFrom, faulty, noWindows}
+use Rattle.plain_shared.proofs.Cleanness.{bits-fail, values-fail, ranges-decide, no-ranges}
+use Rattle.plain_shared.proofs.Grouping.{AtGroup, Turn, free-in-order, at-first, turn-at, fails-there, clean-there, all-passed}
 use Rattle.plain_mi.proofs.type_0.pairs_good.Statement.{statement}
 use Rattle.plain_mi.proofs.type_0.pairs_good.Tie as tie
 

@@ -5,9 +5,9 @@ use native.Mathlib.Omega.{arith}
 use mathlib.Core.Path.{_≡_, _∙_}
 use lib.ListN.{length, drop}
 use borrow.Author.Needs.{needs}
-use Rattle.plain_mi.specs.Plain.{registerOf}
-use Rattle.plain_mi.proofs.Tests.{asked, answered, refuses, passes}
-use Rattle.plain_mi.proofs.Whole.{head-fits}
+use Rattle.plain_shared.specs.Plain.{registerOf}
+use Rattle.plain_shared.proofs.Tests.{asked, answered, refuses, passes}
+use Rattle.plain_shared.proofs.Whole.{head-fits}
 use Rattle.plain_mi.proofs.Registers.{register-tests, header-says, register-tested}
 use Rattle.plain_mi.proofs.type_0.register_and_address.Statement.{statement}
 use Rattle.plain_mi.proofs.type_0.register_and_address.Tie as tie

@@ -8,8 +8,8 @@ use borrow.Author.Needs.{needs}
 use Rattle.rules.specs.declared.Level.the-variants.{First}
 use Rattle.rules.specs.Words.{field}
 use Rattle.rules.specs.Commands.{setRegistersRow, rows, theRow, groupSize}
-use Rattle.plain_mi.specs.Plain.{noWindows}
-use Rattle.plain_mi.proofs.OfGroups.{GroupRow, OwnGroups, groups-refuse, own-groups}
+use Rattle.plain_shared.specs.Plain.{noWindows}
+use Rattle.plain_shared.proofs.OfGroups.{GroupRow, OwnGroups, groups-refuse, own-groups}
 use Rattle.plain_mi.proofs.type_0.set_registers.Statement.{statement}
 use Rattle.plain_mi.proofs.type_0.set_registers.Tie as tie
 

@@ -7,9 +7,9 @@ use lib.ListN.{drop}
 use borrow.Author.Needs.{needs}
 use borrow.Author.Tests.{eq-eqb, ne-eqb}
 use Rattle.rules.specs.Commands.{startRow}
-use Rattle.plain_mi.specs.Plain.{wrongOf}
-use Rattle.plain_mi.proofs.Tests.{asked, answered, refuses, passes}
-use Rattle.plain_mi.proofs.Fitting.{batch-holds}
+use Rattle.plain_shared.specs.Plain.{wrongOf}
+use Rattle.plain_shared.proofs.Tests.{asked, answered, refuses, passes}
+use Rattle.plain_shared.proofs.Fitting.{batch-holds}
 use Rattle.plain_mi.proofs.Starts.{start-field, start-past, start-tests, start-tested}
 use Rattle.plain_mi.proofs.type_0.start.Statement.{statement}
 use Rattle.plain_mi.proofs.type_0.start.Tie as tie

@@ -6,9 +6,9 @@ use lib.ListN.{drop}
 use borrow.Author.Needs.{needs}
 use Rattle.rules.specs.declared.Level.the-variants.{First}
 use Rattle.rules.specs.Commands.{storeRow}
-use Rattle.plain_mi.specs.Plain.{wrongOf}
-use Rattle.plain_mi.proofs.Tests.{asked, answered, refuses, passes, own-past, own-answer}
-use Rattle.plain_mi.proofs.Fitting.{scratch-holds}
+use Rattle.plain_shared.specs.Plain.{wrongOf}
+use Rattle.plain_shared.proofs.Tests.{asked, answered, refuses, passes, own-past, own-answer}
+use Rattle.plain_shared.proofs.Fitting.{scratch-holds}
 use Rattle.plain_mi.proofs.Stores.{Store, four-tests, four-bytes}
 use Rattle.plain_mi.proofs.type_0.store_four.Statement.{statement}
 use Rattle.plain_mi.proofs.type_0.store_four.Tie as tie

@@ -6,7 +6,7 @@ use mathlib.Core.Path.{refl, _∙_}
 use mathlib.Core.Bool.{true, false}
 use lib.ListN.{length}
 use borrow.Author.Needs.{needs}
-use Rattle.plain_mi.proofs.Fitting.{scratch-holds}
+use Rattle.plain_shared.proofs.Fitting.{scratch-holds}
 use Rattle.plain_mi.proofs.Registers.{stores, register-refused, register-fits, addressed}
 use Rattle.plain_mi.proofs.type_0.store_register.Statement.{statement}
 use Rattle.plain_mi.proofs.type_0.store_register.Tie as tie

@@ -1,0 +1,5 @@
+pub mod FormatWords
+pub mod Controls
+pub mod BufferRanges
+pub mod Buffers
+pub mod IndexBuffers

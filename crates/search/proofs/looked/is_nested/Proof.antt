@@ -1,8 +1,0 @@
--- `search::looked::is_nested` meets its contract, by the level.
--- Assumes nothing.
-use borrow.Author.Needs.{needs}
-use Rattle.search.proofs.looked.is_nested.Statement.{statement}
-use Rattle.search.proofs.looked.is_nested.Tie as tie
-
-pub is-nested-spec : {M : Type 1} → statement M
-is-nested-spec = tie.close (tie.spec (λ c. search needs) (λ c. search needs) (λ c. search needs) (λ c. rw (c .enum-told2 .given .1)))
