@@ -70,7 +70,7 @@ fn leads_to(batch: &[u32], batch_at: u64, kept: usize, first: u32, second: u32) 
 }
 
 // Where the walk stands after the commands of the first records: where the last of them leads.
-pub fn position(batch: &[u32], batch_at: u64, records: &[u32], count: usize) -> usize
+fn position(batch: &[u32], batch_at: u64, records: &[u32], count: usize) -> usize
     requires { ⌜ wordsFor count ≤ length (now records) ⌝ }
     ensures { λ r. ⌜ r ≡ positionAfter (now (batch .entry)) «batch_at» (now (records .entry)) count ⌝ }
 {
