@@ -80,8 +80,9 @@ fn verdict_at<'a>(
     verdict_of(structures::read(batch, w.batch.at, state, w.state.at, kind, address, place))
 }
 
-// The first fault of the structure that is pointed to, in the order of 14 to 17. The kind is written out, so that each read is compiled for its own
-// structure: one read for all three takes registers from the walk's loop, in which most commands read nothing.
+// The first fault of the structure that is pointed to, in the order of 14 to 17. The compiler joins the three calls into one read for all kinds, but
+// inlines it later, into the step, than it would one call written here: with that one the plain engine's loop keeps a value on the stack, and most rows
+// take 1 to 10 instructions more.
 pub fn structure_fault<'a>(
     batch: &'a [u32],
     state: &'a [u32],

@@ -48,7 +48,7 @@ fn fresh_base(base: Base) -> Base
 }
 
 // The cursor, made anew from its parts. A copy would carry the bytes between an enum's tag and its number from turn to turn, which costs
-// more than the step itself; made anew, they are never written.
+// as much as the step itself; made anew, they are never written.
 fn fresh(s: Cursor) -> Cursor
     ensures { λ r. ⌜ r ≡ s ⌝ }
 {
