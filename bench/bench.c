@@ -7,6 +7,8 @@
  * The instructions are exact, and the same in every run. The times are of this machine and of its mood: hence the least of many
  * rounds, and the ratio.
  *
+ * Behind the captures comes a line for a command of each row: what a third one costs behind two of it.
+ *
  * Each long run is measured twice: in windows of 4,096 dwords, and "far", in windows of 65,536, of which it takes the last dwords, behind a jump: as many as
  * ROOM says. So with room for 4,096 records the two have the same commands but for the jump, and what they cost shows what the window costs.
  */
@@ -69,26 +71,43 @@ static void put_registers(uint32_t n)
 
 static void put_base(void) { PUT(0x6101000E, 1, 0, 0, 1, 0, (uint32_t)structures_at() | 1, 0, 1, 0, 1, 0, 1, 1, 1, 1); }
 
-/* What a frame's worth of commands looks like: every row that goes on by its length, some with few groups. */
+/* One command of each row that goes on, as real captures have it; rows of groups have a few. */
+static void put_noop(void) { PUT(0); }
+static void put_start(void) { PUT(0x18800101, (uint32_t)(BATCH_AT + 4 * (batch_len + 3)), 0); }
+static void put_pairs(void) { put_registers(3); }
+static void put_store_4(void) { PUT(0x10000002, (uint32_t)SCRATCH_AT + 4, 0, 7); }
+static void put_store_8(void) { PUT(0x10200003, (uint32_t)SCRATCH_AT + 8, 0, 7, 8); }
+static void put_store_register(void) { PUT(0x12000002, 0x2408, (uint32_t)SCRATCH_AT + 16, 0); }
+static void put_load_register(void) { PUT(0x14800002, 0x2430, (uint32_t)structures_at(), 0); }
+static void put_flush(void) { PUT(0x7A000004, 0x00101001, 0, 0, 0, 0); }
+static void put_post_sync(void) { PUT(0x7A000004, 0x00004010, (uint32_t)SCRATCH_AT + 24, 0, 1, 0); }
+static void put_select(void) { PUT(0x69040000); }
+static void put_two_buffers(void) { put_buffers(2); }
+static void put_three_elements(void) { put_elements(3); }
+static void put_index_buffer(void) { PUT(0x780A0003, 0x100, (uint32_t)SCRATCH_AT + 256, 0, 128); }
+static void put_topology(void) { PUT(0x784B0000, 4); }
+static void put_viewport(void) { PUT(0x78230000, 32); }
+static void put_colour(void) { PUT(0x780E0000, 1); }
+static void put_primitive(void) { PUT(0x7B000005, 4, 3, 0, 1, 0, 0); }
+static void put_blend(void) { PUT(0x78240000, 1); }
+
+static const struct row {
+    const char *name;
+    void (*put)(void);
+} rows[] = {
+    {"row 0", put_noop},           {"row 2", put_start},           {"row 3", put_pairs},         {"row 4, 4 bytes", put_store_4},
+    {"row 4, 8 bytes", put_store_8}, {"row 5", put_store_register}, {"row 6", put_load_register}, {"row 7", put_flush},
+    {"row 7, storing", put_post_sync}, {"row 8", put_select},      {"row 9", put_base},          {"row 10", put_two_buffers},
+    {"row 11", put_three_elements}, {"row 12", put_index_buffer},  {"row 13", put_topology},     {"row 14", put_viewport},
+    {"row 15", put_colour},        {"row 16", put_primitive},      {"row 17", put_blend},
+};
+
+/* What a frame's worth of commands looks like: every row that goes on by its length, but 17, some with few groups. */
 static void put_frame(void)
 {
-    PUT(0x69040000);
-    put_base();
-    PUT(0x7A000004, 0x00101001, 0, 0, 0, 0);
-    put_registers(3);
-    put_buffers(2);
-    put_elements(3);
-    PUT(0x780A0003, 0x100, (uint32_t)SCRATCH_AT + 256, 0, 128);
-    PUT(0x784B0000, 4);
-    PUT(0x78230000, 32);
-    PUT(0x780E0000, 1);
-    PUT(0x7B000005, 4, 3, 0, 1, 0, 0);
-    PUT(0x10000002, (uint32_t)SCRATCH_AT + 4, 0, 7);
-    PUT(0x10200003, (uint32_t)SCRATCH_AT + 8, 0, 7, 8);
-    PUT(0x12000002, 0x2408, (uint32_t)SCRATCH_AT + 16, 0);
-    PUT(0x14800002, 0x2430, (uint32_t)structures_at(), 0);
-    PUT(0x7A000004, 0x00004010, (uint32_t)SCRATCH_AT + 24, 0, 1, 0);
-    PUT(0);
+    void (*const frame[])(void) = {put_select,   put_base,     put_flush,  put_pairs,     put_two_buffers, put_three_elements, put_index_buffer,   put_topology,
+                                   put_viewport, put_colour,   put_primitive, put_store_4, put_store_8,    put_store_register, put_load_register, put_post_sync, put_noop};
+    for (size_t i = 0; i < sizeof frame / sizeof frame[0]; i++) frame[i]();
 }
 
 static void make_mixed(void)
@@ -169,6 +188,15 @@ static void make_capture(uint32_t which)
     if (far) while (batch_len < FAR_LIMIT) PUT(0);
 }
 
+/* A base, so many commands of one row, and an end. */
+static void make_row(const struct row *row, uint32_t commands)
+{
+    batch_len = 0, state_len = PAGE_WORDS, records_len = 2 * room;
+    put_base();
+    for (uint32_t i = 0; i < commands; i++) row->put();
+    put_end();
+}
+
 /* ---- Calls ---- */
 
 typedef struct lungevati_answer check_call(const uint32_t *, size_t, uint64_t, const uint32_t *, size_t, uint64_t,
@@ -235,6 +263,15 @@ struct lungevati_answer only_return(const uint32_t *, size_t, uint64_t, const ui
 __asm__(".text\nonly_return: ret\n");
 
 static uint64_t instructions(check_call *check) { return counted(check) - counted(only_return) + 1; }
+
+/* What a third command of a row costs behind two of it. */
+static double third(const struct row *row, check_call *check)
+{
+    make_row(row, 2);
+    uint64_t two = instructions(check);
+    make_row(row, 3);
+    return (double)instructions(check) - (double)two;
+}
 
 static double now(void)
 {
@@ -303,13 +340,18 @@ struct work {
     uint64_t commands, dwords;
 };
 
+/* A line of the table, but for its times. */
+static void print_counts(const char *engine, struct work w, double p, struct counts in_c)
+{
+    double c = in_c.c, f = in_c.fast, n = (double)w.commands, d = (double)w.dwords;
+    printf("%-8s %-20s %8.0f %7.0f | %9.0f %9.0f %6.3f %9.0f %6.3f | %8.2f %8.2f %8.2f | %7.2f %7.2f %7.2f", engine, w.name, n, d, p, c,
+           p / c, f, p / f, p / n, c / n, f / n, p / d, c / d, f / d);
+}
+
 /* One engine on the capture that stands, or the reader. */
 static void measure(const struct engine *engine, check_call *beside, check_call *fast, struct work w, struct counts in_c, uint64_t rounds)
 {
-    double p = (double)instructions(engine->check), c = in_c.c, f = in_c.fast;
-    double n = (double)w.commands, d = (double)w.dwords;
-    printf("%-8s %-20s %8.0f %7.0f | %9.0f %9.0f %6.3f %9.0f %6.3f | %8.2f %8.2f %8.2f | %7.2f %7.2f %7.2f", engine->name, w.name, n, d, p, c,
-           p / c, f, p / f, p / n, c / n, f / n, p / d, c / d, f / d);
+    print_counts(engine->name, w, (double)instructions(engine->check), in_c);
     if (rounds) {
         double proved_time, to_c = time_ratio(engine->check, beside, rounds, &proved_time);
         double to_fast = time_ratio(engine->check, fast, rounds, &proved_time);
@@ -328,6 +370,25 @@ static int measure_engines(const char *name, uint64_t rounds)
     for (uint32_t e = 0; e < sizeof engines / sizeof engines[0]; e++) {
         if (!same_answers(engines[e].name, engines[e].check, other_check, name, &w.commands)) return 0;
         measure(&engines[e], other_check, fast_check, w, in_c, rounds);
+    }
+    return 1;
+}
+
+/* One command of a row, by its instructions alone. */
+static int measure_row(const struct row *row)
+{
+    struct work w = {row->name, 0, 0};
+    make_row(row, 3);
+    if (!same_answers("fast", fast_check, other_check, row->name, &w.commands)) return 0;
+    w.dwords = lungevati_record_length(records + 2);
+    for (uint32_t e = 0; e < sizeof engines / sizeof engines[0]; e++)
+        if (!same_answers(engines[e].name, engines[e].check, other_check, row->name, &w.commands)) return 0;
+    if (w.commands != 5) return printf("%s: it is not accepted\n", row->name), 0;
+    w.commands = 1;
+    struct counts in_c = {third(row, other_check), third(row, fast_check)};
+    for (uint32_t e = 0; e < sizeof engines / sizeof engines[0]; e++) {
+        print_counts(engines[e].name, w, third(row, engines[e].check), in_c);
+        printf("\n");
     }
     return 1;
 }
@@ -357,5 +418,7 @@ int main(int n, char **v)
         make_capture(i);
         if (!measure_engines(captures[i].name, rounds)) return 1;
     }
+    for (uint32_t i = 0; i < sizeof rows / sizeof rows[0]; i++)
+        if (!measure_row(&rows[i])) return 1;
     return !measure_reader(rounds);
 }

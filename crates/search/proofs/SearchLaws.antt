@@ -1,28 +1,20 @@
 -- Laws of the search over a command's dwords: what is left of it, the groups, and the table of masks.
 -- Assumes nothing.
 use Prim.Native.Nat.{ℕ, zero, suc, _+_, _-_, _*_, _/_, _%_, _≤_, _<_}
-use native.Mathlib.Nat.{mul-add-mod-self-right, mod-eq-of-lt, mod-self, div-add-mod', add-zero}
+use native.Mathlib.Nat.{mul-add-mod-self-right, mod-eq-of-lt, mod-self, mod-zero, div-add-mod', add-zero, suc-mul, mul-le-mul-right, lt-of-mul-lt-mul-right}
 use native.Mathlib.Omega.{arith}
 use mathlib.Core.Path.{_≡_, refl, sym, ap, _∙_, subst}
-use mathlib.Core.Bool.{Bool, true, false, cond, _&&_}
-use mathlib.Core.List.{List, [], _∷_}
-use lib.ListN.{length, getD}
-use lib.Dec.{eqb}
-use borrow.Author.Tests.{eqb-true, ne-eqb, leb-true}
-use Rattle.rules.specs.declared.Found.the-variants.{At, Nothing}
+use mathlib.Core.Bool.{Bool, true, false, _&&_}
+use mathlib.Core.List.{List}
+use mathlib.Core.Logic.{⊎-elim}
+use lib.Dec.{eqb, leb}
+use borrow.Author.Tests.{eqb-true, ne-eqb, leb-false}
 use Rattle.rules.specs.declared.Windows.{Windows}
-use Rattle.rules.specs.declared.Access.the-variants.{Unused, NoRange}
-use Rattle.rules.specs.Addresses.{accessWrong}
-use Rattle.rules.specs.Words.{bit, some, inGroup, firstFrom, firstOf}
-use Rattle.rules.specs.Commands.{baseRow, rows, theRow, groupSize, rowCount}
-use Rattle.rules.specs.Uses.{addressAt, usesByRow, accessOf}
-use Rattle.rules.specs.Masks.{masksOf}
-use Rattle.rules.proofs.Searching.{search-passes, search-stops, finds-none}
-use Rattle.rules.proofs.Tables.{each, at-each}
+use Rattle.rules.specs.Words.{inGroup, firstFrom, firstOf}
+use Rattle.rules.specs.Commands.{storeRow, rows, theRow, groupSize}
+use Rattle.rules.proofs.Searching.{search-passes, search-stops, or-cases}
 use Rattle.search.specs.declared.Sought.{Sought}
-use Rattle.search.specs.declared.Sought.the-variants.{Ranges}
-use Rattle.rows.specs.Masks.{maskRows, maskTable}
-use Rattle.search.specs.Search.{wrongAt, wrong}
+use Rattle.search.specs.Search.{wrongAt, wrong, placeOf, Whole}
 
 -- the search from dword k on has the answer of the whole search
 pub record Left (bad : ℕ → Bool) (len k : ℕ) : Type 0 where
@@ -38,12 +30,13 @@ module _ {bad : ℕ → Bool} {len k : ℕ} where
   pub left-more : Left bad len k → k < len → bad k ≡ false → Left bad len (k + 1)
   left-more l h e = record { rest = l .rest ∙ ap (firstFrom bad k) (more h) ∙ search-passes bad k _ e }
 
-  pub left-found : Left bad len k → k < len → bad k ≡ true → At k ≡ firstOf bad len
-  left-found l h e = sym (l .rest ∙ ap (firstFrom bad k) (more h) ∙ search-stops bad k _ e)
+  pub left-found : Left bad len k → k < len → bad k ≡ true → k ≡ placeOf (firstOf bad len) len
+  unfolding placeOf
+  left-found l h e = rw (l .rest, more h, search-stops bad k (len - (k + 1)) e)
 
-  pub left-none : Left bad len k → len ≤ k → Nothing ≡ firstOf bad len
-  unfolding firstFrom
-  left-none l h = sym (l .rest ∙ ap (firstFrom bad k) (none h))
+  pub left-none : Left bad len k → len ≤ k → len ≡ placeOf (firstOf bad len) len
+  unfolding firstFrom placeOf
+  left-none l h = rw (l .rest, none h)
 
 pub left-all : (bad : ℕ → Bool) (len : ℕ) → Left bad len 0
 left-all bad len = record { rest = ap (firstFrom bad 0) (omega arith) }
@@ -64,6 +57,38 @@ module _ (size first j : ℕ) (s : 1 ≤ first) (g : (first - 1) % size ≡ 0) w
       let e : first + size - 1 ≡ (first - 1) / size * size + size = omega (arith, whole) in
       rw (e, mul-add-mod-self-right ((first - 1) / size) size size, mod-self)
 
+-- so a group of a command with whole groups has all its dwords
+pub group-fits : (size first n : ℕ) → 0 < size → 1 ≤ first → (first - 1) % size ≡ 0 → (n - 1) % size ≡ 0 → first < n → first + size ≤ n
+group-fits size first n p s g e h =
+    let before = whole size first 0 s g in
+    let all = whole size n 0 (omega arith) e in
+    let less : (first - 1) / size * size < (n - 1) / size * size = omega (arith, before, all) in
+    let fewer : suc ((first - 1) / size) ≤ (n - 1) / size = lt-of-mul-lt-mul-right size less in
+    omega (arith, before, all, suc-mul ((first - 1) / size) size, mul-le-mul-right size fewer)
+
+-- a row without groups has commands of one dword
+pub groupless : (r n : ℕ) → Whole r n → groupSize r ≡ 0 → n ≤ 1
+unfolding groupSize theRow rows
+groupless r n w e = ⊎-elim by-store by-groups (or-cases (eqb r storeRow) _ (w .groups))
+  where
+    by-store : eqb r storeRow ≡ true → n ≤ 1
+    by-store t = absurd (omega (arith, ap groupSize (sym (eqb-true r storeRow t)) ∙ e))
+
+    by-groups : eqb ((n - 1) % groupSize r) 0 ≡ true → n ≤ 1
+    by-groups t = omega (arith, ap (λ (size : ℕ). (n - 1) % size) (sym e) ∙ eqb-true _ 0 t, mod-zero (n - 1))
+
+-- a dword of a group is one of the command's: a store is asked, and every other row has whole groups
+pub within : (r n first j : ℕ) → Whole r n → 1 ≤ first → (first - 1) % groupSize r ≡ 0 → first < n → j < groupSize r
+    → (eqb r storeRow && leb n (first + j)) ≡ false
+    → first + j < n
+within r n first j w s g h b u = ⊎-elim by-store by-groups (or-cases (eqb r storeRow) _ (w .groups))
+  where
+    by-store : eqb r storeRow ≡ true → first + j < n
+    by-store t = omega (arith, leb-false n (first + j) (ap (λ (v : Bool). v && leb n (first + j)) (sym t) ∙ u))
+
+    by-groups : eqb ((n - 1) % groupSize r) 0 ≡ true → first + j < n
+    by-groups t = omega (arith, group-fits (groupSize r) first n (omega arith) s g (eqb-true _ 0 t) h)
+
 pub header-spot : (size : ℕ) → inGroup size 0 ≡ 0
 unfolding inGroup
 header-spot size = refl
@@ -76,23 +101,3 @@ wrong-at-spot what w r d k j e = ap (wrongAt what w r d k) e
 
 pub left-at : {bad : ℕ → Bool} {len k j : ℕ} → k ≡ j → Left bad len k → Left bad len j
 left-at {bad} {len} e l = subst (λ (i : ℕ). Left bad len i) e l
-
--- what is nowhere wrong is not found: a row without a rule, or without an address
-pub finds-nothing : (what : Sought) (w : Windows) (r : ℕ) (d : List ℕ) → ((k j : ℕ) → wrongAt what w r d k j ≡ false)
-    → Nothing ≡ firstOf (wrong what w r d) (length d)
-unfolding wrong
-finds-nothing what w r d never = sym (finds-none (wrong what w r d) 0 (length d) (λ k from below. never k (inGroup (groupSize r) k)))
-
--- the bases of row 9 are used, or are not, and no range is asked of them
-pub bases-unasked : (w : Windows) (d : List ℕ) (k j : ℕ) → wrongAt Ranges w baseRow d k j ≡ false
-unfolding usesByRow accessOf wrongAt
-bases-unasked w d k j = by (some (eqb j) (1 ∷ 4 ∷ 6 ∷ 8 ∷ 10 ∷ []) && bit (getD d k 0) 0)
-  where
-    by : (t : Bool) → accessWrong w (addressAt d k) (cond t NoRange Unused) ≡ false
-    by true = refl
-    by false = refl
-
--- what a search requires of its row, with the row's number written out
-pub written-out : {r s len : ℕ} {P Q : Type 0} → r ≡ s → (r < rowCount) × (groupSize r ≡ 0 → len ≤ 1) × P × Q
-    → (s < rowCount) × (groupSize s ≡ 0 → len ≤ 1) × P × Q
-written-out {len = len} {P} {Q} e h = subst (λ (i : ℕ). (i < rowCount) × (groupSize i ≡ 0 → len ≤ 1) × P × Q) e h

@@ -1,37 +1,36 @@
 -- The ways out of the checks of a command's dwords, 10 to 13, and what the code calls the row, the length and the dwords.
 -- Assumes nothing.
-use Prim.Native.Nat.{ℕ, _+_, _-_, _≤_, _<_}
+use Prim.Native.Nat.{ℕ, _+_, _-_, _%_, _≤_, _<_}
+use native.Mathlib.Nat.{zero-mod, mod-self}
 use native.Mathlib.Omega.{arith}
-use mathlib.Core.Path.{_≡_, refl, sym, ap, _∙_}
-use mathlib.Core.Bool.{Bool, true, false, _||_}
+use mathlib.Core.Path.{_≡_, refl, sym, ap, _∙_, subst}
+use mathlib.Core.Bool.{Bool, true, false, cond, not, _||_, or-true}
 use mathlib.Core.List.{List}
-use mathlib.Core.Logic.{⊎-elim}
-use lib.ListN.{length, take, drop, length-take}
-use lib.Dec.{ltb}
-use borrow.Author.Tests.{ltb-true}
+use lib.ListN.{length, take, drop, length-take, length-drop}
+use lib.Dec.{eqb, ltb}
+use borrow.Author.Tests.{eqb-true, eq-eqb, ne-eqb, ltb-true, ltb-false, not-false}
 use Rattle.rules.specs.declared.Windows.{Windows}
 use Rattle.rules.specs.declared.Level.{Level}
+use Rattle.rules.specs.declared.Level.the-variants.{First, Second}
 use Rattle.rules.specs.declared.Found.the-variants.{At, Nothing}
 use Rattle.rules.specs.declared.Verdict.the-variants.{Pass, Fails}
-use Rattle.rules.specs.declared.Reason.the-variants.{BitNotAllowed, NestedStart, ValueBroken, RangeOutside}
-use Rattle.rules.specs.Words.{firstOf}
+use Rattle.rules.specs.declared.Reason.the-variants.{WrongLength, PastTheWindow, BitNotAllowed, NestedStart, ValueBroken, RangeOutside}
+use Rattle.rules.specs.Words.{field, firstOf}
 use Rattle.rules.specs.Refusals.{batchWindow, fault}
-use Rattle.rules.specs.Commands.{Length, noField, exactly, byBit, groups, rows, theRow, dwordCount, lengthOf, groupSize, rowCount, lengthRight}
+use Rattle.rules.specs.Commands.{Length, noField, exactly, byBit, groups, rows, theRow, dwordCount, fieldRight, lengthOf, groupSize, rowCount, lengthRight}
+use Rattle.rules.specs.Commands.{startRow, storeRow}
 use Rattle.rules.specs.Uses.{accessAt}
 use Rattle.rules.specs.Masks.{allowedOf, allowedAt, bitWrong}
 use Rattle.rules.specs.Values.{valueWrong}
 use Rattle.rules.specs.Addresses.{rangeWrong}
 use Rattle.rules.specs.Step.{headerAt, rowAt, lengthAt, dwordsAt, nested}
-use Rattle.rules.proofs.Searching.{first-found, or-cases}
+use Rattle.rules.proofs.Searching.{some-left, some-right, and-left}
 use Rattle.rules.proofs.Tables.{each, at-each}
-use Rattle.looks.specs.Looks.{contentOf}
-use Rattle.looks.proofs.LookLaws.{dwords-are}
+use Rattle.looks.specs.declared.Look.the-variants.{Wrong}
+use Rattle.looks.specs.Looks.{contentOf, lookOf}
+use Rattle.looks.proofs.LookLaws.{misfit-look, past-look, dwords-are}
 use Rattle.search.specs.declared.Sought.the-variants.{Bits, Values, Ranges}
-use Rattle.search.specs.Search.{wrongAt, wrong}
-
--- a search that finds a dword finds one of the command's
-pub found-below : (bad : ℕ → Bool) (n : ℕ) {k : ℕ} → firstOf bad n ≡ At k → k < n
-found-below bad n e = omega (arith, first-found bad 0 n e .below)
+use Rattle.search.specs.Search.{wrongAt, wrong, Whole}
 
 -- the ways out of the checks of the dwords
 module _ (w : Windows) (r : ℕ) (d : List ℕ) (at : ℕ) (level : Level) where
@@ -61,6 +60,25 @@ module _ (w : Windows) (r : ℕ) (d : List ℕ) (at : ℕ) (level : Level) where
         unfolding contentOf wrong wrongAt bitWrong allowedOf allowedAt valueWrong rangeWrong accessAt
         all-clear e = rw (b, n, v, e)
 
+-- no other row than a start is refused at level 1
+pub not-nested : (r : ℕ) (level : Level) → (r ≡ startRow → ⊥) → false ≡ nested r level
+not-nested r First n = refl
+not-nested r (Second back) n = sym (ne-eqb r startRow n)
+
+-- 8 and 9 are one test: where it stops the length tells them apart
+module _ (w : Windows) (batch : List ℕ) (at : ℕ) (level : Level) (k : rowAt batch at < rowCount) where
+  pub unfit-look : (right : Bool) → lengthRight (rowAt batch at) (headerAt batch at) ≡ right
+      → (not right || ltb (length batch - at) (lengthAt batch at)) ≡ true
+      → Wrong (fault (cond right PastTheWindow WrongLength) batchWindow at) ≡ lookOf w batch at level
+  unfit-look true e stops = past-look w batch at level k e (omega (arith, ltb-true (length batch - at) (lengthAt batch at) stops))
+  unfit-look false e stops = misfit-look w batch at level k e
+
+pub right-passed : (right short : Bool) → (not right || short) ≡ false → right ≡ true
+right-passed right short e = not-false right (some-left (not right) short e)
+
+pub long-passed : (right : Bool) (room len : ℕ) → (not right || ltb room len) ≡ false → len ≤ room
+long-passed right room len e = ltb-false room len (some-right (not right) (ltb room len) e)
+
 -- the code's numbers are those of the definitions: the row and the length
 pub length-is : (batch : List ℕ) (at : ℕ) {row len : ℕ} → row ≡ rowAt batch at → len ≡ lengthOf row (headerAt batch at)
     → len ≡ lengthAt batch at
@@ -76,39 +94,57 @@ pub content-same : (w : Windows) (batch : List ℕ) (at : ℕ) (level : Level) {
     → contentOf w row (take (at + len - at) (drop at batch)) at level ≡ contentOf w (rowAt batch at) (dwordsAt batch at) at level
 content-same w batch at level er el = rw (er, dwords-are batch at el)
 
--- a row without groups is one dword long
-isOne : Length → Bool
-isOne noField = true
-isOne (exactly f) = false
-isOne (byBit b f g) = false
-isOne (groups n) = false
+-- a command whose length is right has whole groups, but for a store: by what the table says of its row's length
+wholeBy : Length → ℕ → ℕ → Bool
+wholeBy noField size r = true
+wholeBy (exactly f) size r = eqb size (f + 1)
+wholeBy (byBit b f g) size r = eqb r storeRow
+wholeBy (groups n) size r = true
 
-one-counted : (t : Length) (header : ℕ) → isOne t ≡ true → dwordCount t header ≡ 1
-unfolding isOne
-one-counted noField header e = refl
-one-counted (exactly f) header e = cc
-one-counted (byBit b f g) header e = cc
-one-counted (groups n) header e = cc
+whole-tested : each (λ r. wholeBy (theRow r .total) (groupSize r) r) rowCount ≡ true
+unfolding each rows theRow groupSize wholeBy
+whole-tested = refl
 
-groupless-tested : each (λ r. ltb 0 (groupSize r) || isOne (theRow r .total)) rowCount ≡ true
-unfolding each rows theRow groupSize isOne
-groupless-tested = refl
+whole-groups : (t : Length) (size r header : ℕ) → wholeBy t size r ≡ true → fieldRight t size header ≡ true
+    → (eqb r storeRow || eqb ((dwordCount t header - 1) % size) 0) ≡ true
+unfolding wholeBy
+whole-groups noField size r header e f = rw (eq-eqb (0 % size) 0 (zero-mod size), or-true)
+whole-groups (exactly g) size r header e f =
+    let one = eqb-true size (g + 1) e in
+    let field = eqb-true _ g f in
+    rw (eq-eqb ((dwordCount (exactly g) header - 1) % size) 0 (ap (λ (n : ℕ). n % size) (omega (arith, one, field)) ∙ mod-self size), or-true)
+whole-groups (byBit b g h) size r header e f = rw e
+whole-groups (groups n) size r header e f =
+    let whole : (field header 7 0 + 1) % size ≡ 0 = eqb-true _ 0 (and-left (eqb ((field header 7 0 + 1) % size) 0) _ f) in
+    let behind : field header 7 0 + 2 - 1 ≡ field header 7 0 + 1 = omega arith in
+    rw (eq-eqb ((dwordCount (groups n) header - 1) % size) 0 (ap (λ (k : ℕ). k % size) behind ∙ whole), or-true)
 
-groupless : (r header : ℕ) → r < rowCount → groupSize r ≡ 0 → lengthOf r header ≡ 1
-unfolding lengthOf
-groupless r header h e =
-    one-counted (theRow r .total) header
-    (⊎-elim (λ t. absurd (omega (arith, ltb-true 0 (groupSize r) t))) (λ t. t)
-    (or-cases (ltb 0 (groupSize r)) _ (at-each (λ k. ltb 0 (groupSize k) || isOne (theRow k .total)) rowCount groupless-tested r h)))
+some-dwords : (t : Length) (header : ℕ) → 1 ≤ dwordCount t header
+some-dwords noField header = omega arith
+some-dwords (exactly f) header = omega arith
+some-dwords (byBit b f g) header = omega arith
+some-dwords (groups n) header = omega arith
 
--- so that the search's groups have dwords
-pub short : (batch : List ℕ) (at : ℕ) {row len : ℕ} → row < rowCount → len ≡ lengthOf row (headerAt batch at) → groupSize row ≡ 0
-    → length (take (at + len - at) (drop at batch)) ≤ 1
-short batch at {row} {len} h el e =
-    let n = groupless row (headerAt batch at) h e in
-    omega (arith, length-take (at + len - at) (drop at batch))
+whole-command : (r header : ℕ) → r < rowCount → lengthRight r header ≡ true → Whole r (lengthOf r header)
+unfolding lengthOf lengthRight
+whole-command r header h e =
+    record {
+      header = some-dwords (theRow r .total) header;
+      groups = whole-groups (theRow r .total) (groupSize r) r header (at-each (λ k. wholeBy (theRow k .total) (groupSize k) k) rowCount whole-tested r h) e;
+    }
 
--- and the command's end is no more than the batch's
+-- the part of the batch that the code takes for a command has its dwords
+part-long : (batch : List ℕ) (at len : ℕ) → at + len ≤ length batch → length (take (at + len - at) (drop at batch)) ≡ len
+part-long batch at len h = omega (arith, length-take (at + len - at) (drop at batch), length-drop at batch)
+
+pub whole-part : (batch : List ℕ) (at : ℕ) {row len : ℕ} → row < rowCount → lengthRight row (headerAt batch at) ≡ true
+    → len ≡ lengthOf row (headerAt batch at)
+    → at + len ≤ length batch
+    → Whole row (length (take (at + len - at) (drop at batch)))
+whole-part batch at {row} {len} h right e below =
+    subst (λ (n : ℕ). Whole row n) (sym (part-long batch at len below ∙ e)) (whole-command row (headerAt batch at) h right)
+
+-- and its end is no more than the batch's
 pub part-below : (batch : List ℕ) (at len : ℕ) → at + len ≤ length batch
     → at + length (take (at + len - at) (drop at batch)) ≤ length batch
-part-below batch at len h = omega (arith, length-take (at + len - at) (drop at batch))
+part-below batch at len h = omega (arith, part-long batch at len h)
