@@ -1,8 +1,10 @@
-// Document 01's number of a reason, and a fault in the batch.
+// Document 01's number of a reason, and a fault in the batch, by itself and as a verdict.
 ghost use mathlib.Core.Path.{_≡_};
+ghost use Rattle.rules.specs.declared.Verdict.the-variants.{Fails};
 ghost use Rattle.rules.specs.Refusals.{batchWindow, fault, numberOf};
 use crate::Fault;
 use crate::Reason;
+use crate::Verdict;
 
 // Document 01's number for a reason.
 pub fn number(reason: Reason) -> u32
@@ -43,4 +45,11 @@ pub fn in_batch(reason: Reason, index: usize) -> Fault
         window: 0,
         index,
     }
+}
+
+// A fault in the batch, as a verdict.
+pub fn fails(reason: Reason, index: usize) -> Verdict
+    ensures { λ r. ⌜ r ≡ Fails (fault reason batchWindow index) ⌝ }
+{
+    Verdict::Fails(in_batch(reason, index))
 }

@@ -1,4 +1,4 @@
--- Laws of the search over a command's dwords: what is left of it, the groups, and the table of masks.
+-- Laws of the search over a command's dwords: what is left of it, and the groups.
 -- Assumes nothing.
 use Prim.Native.Nat.{ℕ, zero, suc, _+_, _-_, _*_, _/_, _%_, _≤_, _<_}
 use native.Mathlib.Nat.{mul-add-mod-self-right, mod-eq-of-lt, mod-self, mod-zero, div-add-mod', add-zero, suc-mul, mul-le-mul-right, lt-of-mul-lt-mul-right}

@@ -2,9 +2,7 @@
 ghost use mathlib.Core.Path.{_≡_};
 ghost use mathlib.Core.Bool.{cond};
 ghost use Rattle.rules.specs.declared.Pointer.the-variants.{NoPointer, PointsTo};
-ghost use Rattle.rules.specs.declared.Verdict.the-variants.{Fails};
 ghost use Rattle.rules.specs.Words.{bit, cleared};
-ghost use Rattle.rules.specs.Refusals.{fault, batchWindow};
 ghost use Rattle.rules.specs.Structures.{readAt, verdictOf};
 ghost use Rattle.rules.specs.Step.{pointerOf};
 ghost use Rattle.step.specs.Parts.{captured, SmallBase, structuralOf};
@@ -15,18 +13,11 @@ use rules::Reading;
 use rules::Reason;
 use rules::Verdict;
 use rules::Windows;
-use rules::faults::in_batch;
+use rules::faults::fails;
 use rules::names::BLEND_ROW;
 use rules::names::COLOUR_ROW;
 use rules::names::VIEWPORT_ROW;
 use words::dwords::dword;
-
-// A fault in the batch, as a verdict.
-fn fails(reason: Reason, index: usize) -> Verdict
-    ensures { λ r. ⌜ r ≡ Fails (fault reason batchWindow index) ⌝ }
-{
-    Verdict::Fails(in_batch(reason, index))
-}
 
 // A structure of this kind, where bit 0 of its pointer is set, and how far above the base.
 fn pointed(kind: Kind, pointer: u32) -> Pointer

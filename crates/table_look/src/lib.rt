@@ -3,7 +3,6 @@ ghost use mathlib.Core.Path.{_≡_};
 ghost use mathlib.Core.Bool.{cond};
 ghost use Prim.Native.Nat.{_+_, _^_, _≤_, _<_};
 ghost use lib.ListN.{length};
-ghost use Rattle.rules.specs.declared.Verdict.the-variants.{Fails};
 ghost use Rattle.rules.specs.declared.Reason.the-variants.{WrongLength, PastTheWindow};
 ghost use Rattle.rules.specs.Refusals.{fault, batchWindow};
 ghost use Rattle.rules.specs.Formats.{surfaceFormats};
@@ -21,6 +20,7 @@ use rules::Level;
 use rules::Reason;
 use rules::Verdict;
 use rules::Windows;
+use rules::faults::fails;
 use rules::faults::in_batch;
 use rules::names::BASE_ROW;
 use rules::names::BLEND_ROW;
@@ -55,13 +55,6 @@ fn is_nested(row: usize, level: Level) -> bool
         Level::First => false,
         Level::Second(_) => true,
     }
-}
-
-// A fault in the batch, as a verdict.
-fn fails(reason: Reason, index: usize) -> Verdict
-    ensures { λ r. ⌜ r ≡ Fails (fault reason batchWindow index) ⌝ }
-{
-    Verdict::Fails(in_batch(reason, index))
 }
 
 // The first fault of the command's dwords, in the order of 10 to 13. All three searches are made before any is asked: a command that passes needs them all, and
@@ -140,8 +133,8 @@ fn seen(
     }
 }
 
-// The checks 7 to 13 of the command at the position. Each row's number is written out, so that the compiler makes of the one search a search for each row;
-// none is looked up again behind the header. Both tables are lent.
+// The checks 7 to 13 of the command at the position. Each row's number is written out, so that the compiler makes of the one search a search for each row,
+// and the row is decided once. Both tables are lent.
 pub fn looked(
     batch: &[u32],
     w: Windows,
