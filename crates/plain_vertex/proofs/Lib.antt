@@ -1,5 +1,4 @@
 pub mod FormatWords
-pub mod Controls
 pub mod BufferRanges
 pub mod Buffers
 pub mod IndexBuffers

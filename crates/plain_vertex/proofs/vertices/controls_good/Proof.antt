@@ -5,7 +5,7 @@ use native.Mathlib.Omega.{arith}
 use mathlib.Core.Path.{_≡_, _∙_}
 use mathlib.Core.Bool.{true, false}
 use borrow.Author.Tests.{eq-eqb, ne-eqb, le-leb, lt-leb}
-use Rattle.plain_vertex.proofs.Controls.{atOnce, at-most, at-once}
+use Rattle.controls.proofs.Controls.{atOnce, at-most, at-once}
 use Rattle.plain_vertex.proofs.vertices.controls_good.Statement.{statement}
 use Rattle.plain_vertex.proofs.vertices.controls_good.Tie as tie
 
