@@ -52,6 +52,18 @@ apart : (ws : List Window) → Sound ws → (i j : ℕ) → i < j → j < length
     → Inside (getD ws j noWindow) a 4 → ⊥
 apart ws s i j h k a p q = never-both (both-share _ _ a 4 (omega arith) p q) (no-two-at shareByte noWindow ws (s .apart) i j h k)
 
+-- words from an address on lie in a window: so does the first, and so do those behind it
+module _ (w : Window) (a n : ℕ) (i : Inside w a (4 * suc n)) where
+  first-inside : Inside w a 4
+  first-inside = let h = i .high in record { low = i .low; high = omega arith }
+
+  rest-inside : Inside w (a + 4) (4 * n)
+  rest-inside = let l = i .low in let h = i .high in record { low = omega arith; high = omega arith }
+
+-- and the next word's address is a multiple of 4 too
+next-aligned : (a : ℕ) → a % 4 ≡ 0 → (a + 4) % 4 ≡ 0
+next-aligned a e = omega arith
+
 -- what stores leave as it was: all of the machine but the words of scratch
 pub record Stored (c : Capture) (m : Machine) (e : Effect) : Type 0 where
   pub at : e .machine .at ≡ m .at
@@ -89,12 +101,10 @@ module _ (c : Capture) (s : Sound (listed (windowsOf c))) where
   unfolding storeWords
   stored-words [] m w a e i = (record { machine = m; stored = [] }, refl, record { at = refl; second = refl; kept = refl; windowed = w; inside = tt })
   stored-words (v ∷ ws) m w a e i =
-      let l = i .low in
-      let h = i .high in
       let n : Machine = machine (m .at) (m .second) (m .kept) (m .registers) (m .batch) (m .state) (set (m .scratch) ((a - c .scratchAt) / 4) v) in
-      let here : InScratch c a = record { low = omega arith; high = omega arith } in
+      let here : InScratch c a = first-inside _ a (length ws) i in
       let x : Windowed c n = record { batch = w .batch; state = w .state; scratch = length-set (m .scratch) _ v ∙ w .scratch } in
-      let r = stored-words ws n x (a + 4) (omega arith) (record { low = omega arith; high = omega arith }) in
+      let r = stored-words ws n x (a + 4) (next-aligned a e) (rest-inside _ a (length ws) i) in
       let t = r .2 in (
         record { machine = r .0 .machine; stored = a ∷ r .0 .stored },
         rw (stored-word m w a v e here, r .1),
