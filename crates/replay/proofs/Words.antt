@@ -218,9 +218,22 @@ module _ (map : Map) (m : Machine) where
       each zero h = rw (first-place a) (r .elsewhere (placeOf map m a) apart ∙ s .here)
       each (suc i) h = rw (later-place w a i q) (r .each i (le-of-suc-le-suc h))
 
+abbrev Changed : Map → List ℕ → Machine → ℕ → Type 0
+Changed map ws m a = (e : Effect) × (storeWords map m a ws ≡ some e) × (e .machine .at ≡ m .at) × WordsChanged map m a ws e
+
+first-and-rest : (map : Map) (w : ℕ) (ws : List ℕ) (m n : Machine) (a : ℕ)
+    → ((i : ℕ) → i < suc (length ws) → placeOf map m (a + 4 * i) ≡ outside → ⊥)
+    → storeTo m w (placeOf map m a) ≡ some n → WordChanged m w (placeOf map m a) n → Changed map ws n (a + 4) → Changed map (w ∷ ws) m a
+unfolding storeWords
+first-and-rest map w ws m n a k q s r = (
+  record { machine = r .0 .machine; stored = a ∷ r .0 .stored },
+  rw (q, r .1),
+  r .2 ∙ s .at,
+  one-more map m w ws a k q s (r .3),
+)
+
 pub words-changed : (map : Map) (ws : List ℕ) (m : Machine) (a : ℕ)
-    → ((i : ℕ) → i < length ws → placeOf map m (a + 4 * i) ≡ outside → ⊥)
-    → (e : Effect) × (storeWords map m a ws ≡ some e) × (e .machine .at ≡ m .at) × WordsChanged map m a ws e
+    → ((i : ℕ) → i < length ws → placeOf map m (a + 4 * i) ≡ outside → ⊥) → Changed map ws m a
 unfolding storeWords addressesFrom
 words-changed map [] m a k = (
   record { machine = m; stored = [] },
@@ -230,9 +243,8 @@ words-changed map [] m a k = (
 )
 words-changed map (w ∷ ws) m a k =
     let s = word-changed m w (placeOf map m a) (has-word map m a (λ o. k 0 (omega arith) (first-place map m a ∙ o))) in
-    let r = words-changed map ws (s .0) (a + 4) (λ i h o. k (suc i) (suc-le-suc h) (later-place map m w a i (s .1) ∙ o)) in
-    let e : Effect = record { machine = r .0 .machine; stored = a ∷ r .0 .stored } in
-    (e, rw (s .1, r .1), r .2 ∙ s .2 .at, one-more map m w ws a k (s .1) (s .2) (r .3))
+    let rest = words-changed map ws (s .0) (a + 4) (λ i h o. k (suc i) (suc-le-suc h) (later-place map m w a i (s .1) ∙ o)) in
+    first-and-rest map w ws m (s .0) a k (s .1) (s .2) rest
 
 -- A WORD OF THEM THAT LIES OUTSIDE stops them all
 pub outside-stops : (map : Map) (ws : List ℕ) (m : Machine) (a i : ℕ) → i < length ws → placeOf map m (a + 4 * i) ≡ outside
