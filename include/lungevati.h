@@ -77,7 +77,7 @@ struct lungevati_answer lungevati_check_no_base(const uint32_t *batch, size_t ba
 /*
  * The question of lungevati_check, asked of the table engine: the same answer and the same records for every capture, which is proved, from other code. The plain
  * engine behind lungevati_check decides by each command's header and has its rules written out; this one looks every dword up in a table. It
- * takes about twice the instructions, and is for whoever wants a second way to the answer.
+ * takes 1.1 to 1.9 times the instructions, and is for whoever wants a second way to the answer.
  */
 struct lungevati_answer lungevati_check_table(const uint32_t *batch, size_t batch_len, uint64_t batch_at,
                                               const uint32_t *state, size_t state_len, uint64_t state_at,
