@@ -1,6 +1,6 @@
 -- `put_column` meets its contract: the byte stands behind the number.
 -- Assumes nothing.
-use borrow.Author.Needs.{needs}
+use native.Mathlib.Omega.{arith}
 use Rattle.lines.proofs.Putting.{then}
 use Rattle.printout.proofs.put_column.Statement.{statement}
 use Rattle.printout.proofs.put_column.Tie as tie
@@ -12,4 +12,4 @@ returns c =
     then (digits .put-digits .ensures) (byte .put-byte .ensures)
 
 pub put-column-spec : {M : Type 1} → statement M
-put-column-spec = tie.close (tie.spec (λ c κs. search needs) (λ c κs. search needs) (λ c. search needs) returns)
+put-column-spec = tie.close (tie.spec (λ c κs. omega arith) (λ c κs. omega arith) (λ c. omega arith) returns)

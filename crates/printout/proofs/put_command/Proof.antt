@@ -1,7 +1,7 @@
 -- `printout::put_command` meets its contract: four columns, each behind the last.
 -- Assumes nothing.
+use native.Mathlib.Omega.{arith}
 use mathlib.Core.List.{append-assoc}
-use borrow.Author.Needs.{needs}
 use Rattle.rules.specs.Printout.{commandLine}
 use Rattle.lines.proofs.Putting.{then}
 use Rattle.printout.proofs.put_command.Statement.{statement}
@@ -20,4 +20,4 @@ returns c =
 pub put-command-spec : {M : Type 1} → statement M
 put-command-spec =
     tie.close
-    (tie.spec (λ c κs. search needs) (λ c κs. search needs) (λ c κs. search needs) (λ c κs. search needs) (λ c. search needs) returns)
+    (tie.spec (λ c κs. omega arith) (λ c κs. omega arith) (λ c κs. omega arith) (λ c κs. omega arith) (λ c. omega arith) returns)

@@ -1,6 +1,6 @@
 -- `put_labelled` meets its contract: the number stands behind its label.
 -- Assumes nothing.
-use borrow.Author.Needs.{needs}
+use native.Mathlib.Omega.{arith}
 use Rattle.lines.proofs.Putting.{then}
 use Rattle.printout.proofs.put_labelled.Statement.{statement}
 use Rattle.printout.proofs.put_labelled.Tie as tie
@@ -12,4 +12,4 @@ returns c =
     then (label .put-text .ensures) (digits .put-digits .ensures)
 
 pub put-labelled-spec : {M : Type 1} → statement M
-put-labelled-spec = tie.close (tie.spec (λ c κs. search needs) (λ c κs. search needs) (λ c. search needs) returns)
+put-labelled-spec = tie.close (tie.spec (λ c κs. omega arith) (λ c κs. omega arith) (λ c. omega arith) returns)

@@ -20,7 +20,7 @@ loop-holds : tie.Need-loop-holds Inv-loop μ-loop
 loop-holds c = begins _ _
 
 add-if1 : tie.Need-add-if1 Inv-loop μ-loop
-add-if1 c = let g = c .before .loop .inv in search needs
+add-if1 c = let g = c .before .loop .inv in omega arith
 
 put-command-requires : tie.Need-put-command-requires Inv-loop μ-loop
 put-command-requires c κs = search needs
@@ -40,7 +40,7 @@ loop-again : tie.Need-loop-again Inv-loop μ-loop
 loop-again c =
     let put = c .before .before in
     let l = turn put in
-    one-more _ _ (l .loop .inv) (search needs) (rw (l .loop .inv .same) at (room-there put)) (rw (put .before .command .ensures) at (put .put-command .ensures))
+    one-more _ _ (l .loop .inv) (omega arith) (rw (l .loop .inv .same) at (room-there put)) (rw (put .before .command .ensures) at (put .put-command .ensures))
 
 returns : tie.Need-returns Inv-loop μ-loop
 returns c = page-full _ _ (c .before .before .loop .inv) (rw (c .before .before .loop .inv .same) at (no-room-there c))
@@ -53,6 +53,6 @@ record-lines-spec =
     tie.close
     (tie.spec Inv-loop μ-loop loop-holds add-if1
     -- the two words of the record
-    (λ c. search needs) (λ c. search needs) (λ c. search needs) (λ c. search needs) (λ c. search needs) (λ c. search needs) (λ c. search needs)
-    (λ c κs. search needs) put-command-requires
-    (λ c. search needs) (λ c. search needs) loop-again (λ c. c .before .before .loop .inv .same) returns (λ c. c .before .loop .inv .same) returns-2)
+    (λ c. omega arith) (λ c. omega arith) (λ c. omega arith) (λ c. omega arith) (λ c. omega arith) (λ c. omega arith) (λ c. omega arith)
+    (λ c κs. tt) put-command-requires
+    (λ c. omega arith) (λ c. omega arith) loop-again (λ c. c .before .before .loop .inv .same) returns (λ c. c .before .loop .inv .same) returns-2)
