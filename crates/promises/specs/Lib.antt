@@ -1,7 +1,6 @@
 pub mod Demand1
 pub mod Demand2
 pub mod Demand3
-pub mod Engines
 pub mod Files
 pub mod Versions
 pub mod Writer

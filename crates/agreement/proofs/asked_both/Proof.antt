@@ -1,9 +1,9 @@
--- `promises::asked_both` meets its contract: both calls keep the same promise, and it admits one answer only.
+-- `agreement::asked_both` meets its contract: both calls keep the same promise, and it admits one answer only.
 -- Assumes nothing.
 use borrow.Author.Needs.{needs}
 use Rattle.rules.proofs.Unique.{one-check}
-use Rattle.promises.proofs.asked_both.Statement.{statement}
-use Rattle.promises.proofs.asked_both.Tie as tie
+use Rattle.agreement.proofs.asked_both.Statement.{statement}
+use Rattle.agreement.proofs.asked_both.Tie as tie
 
 returns : tie.Need-returns
 returns c =

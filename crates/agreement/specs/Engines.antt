@@ -5,7 +5,7 @@
 use Prim.Native.Nat.{ℕ}
 use mathlib.Core.Path.{_≡_}
 use mathlib.Core.List.{List}
-use Rattle.promises.specs.declared.Answers.{Answers}
+use Rattle.agreement.specs.declared.Answers.{Answers}
 
 pub record SameAnswers (old twin : List ℕ) (both : Answers) (new twinNew : List ℕ) : Type 0 where
   pub answers : old ≡ twin → both .table ≡ both .plainly
