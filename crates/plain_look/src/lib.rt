@@ -1,9 +1,12 @@
 // The plain engine: the checks 7 to 13 of the command at a position by a straight decision on its header, and then by the function of its row.
 ghost use mathlib.Core.Path.{_≡_};
-ghost use Prim.Native.Nat.{_<_};
-ghost use lib.ListN.{length, drop};
+ghost use Prim.Native.Nat.{_+_, _<_};
+ghost use lib.ListN.{length, getD, drop};
 ghost use Rattle.rules.specs.declared.Level.the-variants.{First};
+ghost use Rattle.rules.specs.Words.{field};
+ghost use Rattle.rules.specs.Commands.{storeRow, rowOf};
 ghost use Rattle.looks.specs.Looks.{lookOf};
+ghost use Rattle.plain_shared.specs.Plain.{wrongOf};
 ghost use Rattle.plain_look.specs.Seeing.{OfType3, Sees};
 use looks::Look;
 use plain_3d::type_3;
@@ -71,11 +74,7 @@ fn seen_by_header(batch: &[u32], at: usize, w: Windows, level: Level) -> Seen
             length_by_field(header),
             type_0::set_registers(from(batch, at)),
         ),
-        0x20 => found(
-            STORE_ROW,
-            length_by_field(header),
-            type_0::store(w, from(batch, at)),
-        ),
+        0x20 => seen_store(w, from(batch, at)),
         0x24 => found(
             STORE_REGISTER_ROW,
             4,
@@ -90,16 +89,31 @@ fn seen_by_header(batch: &[u32], at: usize, w: Windows, level: Level) -> Seen
     }
 }
 
-// "type 3 by 31:16". The topology is asked for first, as `rows` does.
+// A store, by its two headers: so, compiled, each has its length written out.
+fn seen_store(w: Windows, rest: &[u32]) -> Seen
+    requires { ⌜ (0 < length (now rest)) × (rowOf (getD (now rest) 0 0) ≡ storeRow) ⌝ }
+    ensures { λ r. ⌜
+        (r .row ≡ storeRow) × (r .length ≡ field (getD (now (rest .entry)) 0 0) 7 0 + 2) × (r .wrong ≡ wrongOf w storeRow (now (rest .entry)) First)
+        ⌝ }
+{
+    match rest[0] {
+        0x1000_0002 => found(STORE_ROW, 4, type_0::store_four(w, rest)),
+        0x1020_0003 => found(STORE_ROW, 5, type_0::store_eight(w, rest)),
+        header => found(
+            STORE_ROW,
+            length_by_field(header),
+            type_0::store_other(rest),
+        ),
+    }
+}
+
+// "type 3 by 31:16". The blend state is asked for apart, where no other key fits: so, compiled, its key takes no part in the decision between the others.
 fn seen_of_type_3(batch: &[u32], at: usize, w: Windows) -> Seen
     requires { ⌜ (at < length (now batch)) × (OfType3 (now batch) at) ⌝ }
     ensures { λ r. ⌜ Sees w (now (batch .entry)) at First r ⌝ }
 {
     let header = batch[at];
     let key = header / 0x1_0000;
-    if key == 0x784B {
-        return found(TOPOLOGY_ROW, 2, type_3::topology(from(batch, at)));
-    }
     match key {
         0x7A00 => found(PIPE_ROW, 6, type_3::pipe(w, from(batch, at))),
         0x6904 => found(SELECT_ROW, 1, type_3::select(header)),
@@ -119,11 +133,16 @@ fn seen_of_type_3(batch: &[u32], at: usize, w: Windows) -> Seen
             5,
             vertices::index_buffer(w, from(batch, at)),
         ),
+        0x784B => found(TOPOLOGY_ROW, 2, type_3::topology(from(batch, at))),
         0x7823 => found(VIEWPORT_ROW, 2, type_3::viewport(from(batch, at))),
         0x780E => found(COLOUR_ROW, 2, type_3::colour(from(batch, at))),
         0x7B00 => found(PRIMITIVE_ROW, 7, type_3::primitive(from(batch, at))),
-        0x7824 => found(BLEND_ROW, 2, type_3::blend(from(batch, at))),
-        _ => found(ROWS, 1, numbers::at(numbers::UNKNOWN, 0)),
+        _ => {
+            if key == 0x7824 {
+                return found(BLEND_ROW, 2, type_3::blend(from(batch, at)));
+            }
+            found(ROWS, 1, numbers::at(numbers::UNKNOWN, 0))
+        }
     }
 }
 

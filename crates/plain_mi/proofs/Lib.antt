@@ -1,3 +1,4 @@
 pub mod Starts
 pub mod Stores
+pub mod Kept
 pub mod Registers

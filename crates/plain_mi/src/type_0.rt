@@ -11,7 +11,7 @@ ghost use Rattle.rules.specs.Words.{bit};
 ghost use Rattle.rules.specs.Commands.{noopRow, endRow, startRow, storeRow, storeRegisterRow, loadRegisterRow, rowOf, setRegistersRow};
 ghost use Rattle.rules.specs.Masks.{bitWrong};
 ghost use Rattle.rules.specs.Step.{nested};
-ghost use Rattle.plain_shared.specs.Plain.{firstCoded, firstBy, wrongOf, bareOf, registerOf, coded, noWindows, cleanFrom, Groups, GroupAt};
+ghost use Rattle.plain_shared.specs.Plain.{firstCoded, firstBy, wrongOf, bareOf, otherHeader, registerOf, coded, noWindows, cleanFrom, Groups, GroupAt};
 ghost use Rattle.rules.specs.Values.{valueWrong};
 ghost use Rattle.looks.specs.Looks.{contentOf};
 use formats::known_register;
@@ -213,20 +213,8 @@ fn store_field(header: u32) -> u32
     if header / 0x20_0000 % 2 == 1 { 3 } else { 2 }
 }
 
-// 4: MI_STORE_DATA_IMM.
-pub fn store(w: Windows, rest: &[u32]) -> usize
-    requires { ⌜ (0 < length (now rest)) × (rowOf (getD (now rest) 0 0) ≡ storeRow) ⌝ }
-    ensures { λ r. ⌜ r ≡ wrongOf w storeRow (now (rest .entry)) First ⌝ }
-{
-    match rest[0] {
-        // "10000002h, or 10200003h"
-        0x1000_0002 => store_four(w, rest),
-        0x1020_0003 => store_eight(w, rest),
-        header => other_header(rest, store_field(header)),
-    }
-}
-
-fn store_four(w: Windows, rest: &[u32]) -> usize
+// 4: MI_STORE_DATA_IMM of four bytes: "10000002h".
+pub fn store_four(w: Windows, rest: &[u32]) -> usize
     requires { ⌜ (0 < length (now rest)) × (getD (now rest) 0 0 ≡ 0x10000002) ⌝ }
     ensures { λ r. ⌜ r ≡ wrongOf w storeRow (now (rest .entry)) First ⌝ }
 {
@@ -248,21 +236,22 @@ fn store_four(w: Windows, rest: &[u32]) -> usize
     NOTHING
 }
 
-fn store_eight(w: Windows, rest: &[u32]) -> usize
+// 4: MI_STORE_DATA_IMM of eight bytes: "10200003h".
+pub fn store_eight(w: Windows, rest: &[u32]) -> usize
     requires { ⌜ (0 < length (now rest)) × (getD (now rest) 0 0 ≡ 0x10200003) ⌝ }
     ensures { λ r. ⌜ r ≡ wrongOf w storeRow (now (rest .entry)) First ⌝ }
 {
     if rest.len() < 5 {
         return at(PAST, 0);
     }
-    // 10: "address FFFFFFFCh, 1 or 2 free"
-    if !allowed(rest[1], 0xFFFF_FFFC) {
-        return at(BIT, 1);
-    }
-    // 12: "an eight-byte store address is a multiple of 8", "the high dword of every address that is used must be canonical"
+    // 10: "address FFFFFFFCh, 1 or 2 free"; 12: "an eight-byte store address is a multiple of 8", and so keeps its mask
     if rest[1] % 8 != 0 {
+        if !allowed(rest[1], 0xFFFF_FFFC) {
+            return at(BIT, 1);
+        }
         return at(VALUE, 1);
     }
+    // 12: "the high dword of every address that is used must be canonical"
     if !canonical(rest[2]) {
         return at(VALUE, 2);
     }
@@ -271,6 +260,14 @@ fn store_eight(w: Windows, rest: &[u32]) -> usize
         return at(RANGE, 1);
     }
     NOTHING
+}
+
+// 4: MI_STORE_DATA_IMM with neither header: 8, 9 or 10, by the field that its bit 21 wants.
+pub fn store_other(rest: &[u32]) -> usize
+    requires { ⌜ 0 < length (now rest) ⌝ }
+    ensures { λ r. ⌜ r ≡ otherHeader (now (rest .entry)) (cond (bit (getD (now (rest .entry)) 0 0) 21) 3 2) ⌝ }
+{
+    other_header(rest, store_field(rest[0]))
 }
 
 // 5: MI_STORE_REGISTER_MEM.
@@ -317,15 +314,16 @@ fn register_and_address(rest: &[u32], header: u32) -> usize
     if head != NOTHING {
         return head;
     }
-    // 10: "007FFFFCh, address FFFFFFFCh"
-    if !allowed(rest[1], 0x007F_FFFC) {
+    // 10: "007FFFFCh, address FFFFFFFCh". A register that is known keeps its mask.
+    let known = known_register(rest[1]);
+    if !(known || allowed(rest[1], 0x007F_FFFC)) {
         return at(BIT, 1);
     }
     if !allowed(rest[2], 0xFFFF_FFFC) {
         return at(BIT, 2);
     }
     // 12: "register is 2400h, ..", "the high dword of every address that is used must be canonical"
-    if !known_register(rest[1]) {
+    if !known {
         return at(VALUE, 1);
     }
     if !canonical(rest[3]) {

@@ -109,7 +109,7 @@ row key free total masks = record { key = key; free = free; total = total; masks
 abbrev bits : ℕ → ℕ → ℕ
 bits high low = 2 ^ (high + 1) - 2 ^ low
 
--- "Free means any dword"
+-- "Free" "means any dword"
 abbrev pub anyDword : ℕ
 anyDword = 0xFFFFFFFF
 

@@ -128,7 +128,7 @@ spentAt position = fault BudgetSpent batchWindow position
 unfoldable pub budgetSpent : ℕ → Here → Verdict
 budgetSpent done h = refuseIf (leb budget done) (spentAt (at h))
 
--- 6: "position equals the batch count", at "that index". The position is never above the count (proofs/Moving), so "equals" is "is not below".
+-- 6: "position equals the batch count", at "that index". The position is never above the count (proofs/Moving), so "equals" is tried as: is not below.
 unfoldable pub ranOff : Here → Verdict
 ranOff h = atHeader RanOff h (leb (length (h .capture .batch)) (at h))
 
@@ -209,7 +209,7 @@ levelAfterStart header next level = cond (bit header 22) (Second next) level
 abbrev pub newBase : List ℕ → ℕ
 newBase d = 2 ^ 12 * field (getD d 6 0) 31 12 + 2 ^ 32 * field (getD d 7 0) 15 0
 
--- "the dynamic base becomes ..", in row 9 "if dword 6 bit 0 is set"
+-- "the dynamic base becomes ..", in row 9 "If dword 6 bit 0 is set"
 unfoldable pub baseAfter : ℕ → List ℕ → Base → Base
 baseAfter r d base = cond (eqb r baseRow && bit (getD d 6 0) 0) (Set (newBase d)) base
 

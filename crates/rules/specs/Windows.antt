@@ -37,7 +37,7 @@ window at bytes = record { at = at; bytes = bytes }
 abbrev pub lent : ℕ → ℕ → Window
 lent at count = window at (4 * count)
 
--- "A capture has a batch window .., a state window .. and a scratch window": where each lies
+-- "A capture has a batch window .. and a state window .. and a scratch window": where each lies
 unfoldable pub windowsOf : Capture → Windows
 windowsOf c = record {
   batch = lent (c .batchAt) (length (c .batch));

@@ -3,6 +3,7 @@ ghost use mathlib.Core.Path.{_≡_};
 ghost use Prim.Native.Nat.{_+_, _^_, _≤_, _<_};
 ghost use Rattle.rules.specs.Words.{firstOf, inGroup};
 ghost use Rattle.rules.specs.Refusals.{fault, firstFault};
+ghost use Rattle.structures.specs.Which.{isColour, isBlend};
 ghost use Rattle.structures.specs.Table.{outside};
 ghost use Rattle.rules.specs.Structures.{layoutOf, structureBitWrong};
 ghost use Rattle.rules.specs.Structures.{nowhere, heldWindow, heldFrom, structureChecks, StructureRead};
@@ -32,14 +33,35 @@ const STRUCTURE_MASKS: [[u32; GROUP + 1]; 3] = [
     [0xFFF8_0000, 0xFFFF_FFEF, 0xF800_001F],
 ];
 
+fn is_colour(kind: Kind) -> bool
+    ensures { λ r. ⌜ r ≡ isColour kind ⌝ }
+{
+    match kind {
+        Kind::Viewport => false,
+        Kind::ColourCalc => true,
+        Kind::Blend => false,
+    }
+}
+
+fn is_blend(kind: Kind) -> bool
+    ensures { λ r. ⌜ r ≡ isBlend kind ⌝ }
+{
+    match kind {
+        Kind::Viewport => false,
+        Kind::ColourCalc => false,
+        Kind::Blend => true,
+    }
+}
+
+// How many dwords a structure has. The kinds are asked one after the other, here and in `first_bit`: by a `match` the compiler makes three ways of it,
+// and a colour state takes more.
 fn dwords_of(kind: Kind) -> usize
     ensures { λ r. ⌜ r ≡ layoutOf kind .dwords ⌝ }
 {
-    match kind {
-        Kind::Viewport => 2,
-        Kind::ColourCalc => 6,
-        Kind::Blend => 17,
+    if is_colour(kind) {
+        return 6;
     }
+    if is_blend(kind) { 17 } else { 2 }
 }
 
 // Which of a structure's masks is that of its dword k, by how many dwords its group has.
@@ -73,11 +95,13 @@ fn first_bit(kind: Kind, d: &[u32]) -> Found
     ensures { λ r. ⌜ r ≡ firstOf (structureBitWrong kind (now (d .entry))) (layoutOf kind .dwords) ⌝ }
 {
     let masks = STRUCTURE_MASKS;
-    match kind {
-        Kind::Viewport => first_outside(&masks[0], 1, d, dwords_of(Kind::Viewport)),
-        Kind::ColourCalc => first_outside(&masks[1], 1, d, dwords_of(Kind::ColourCalc)),
-        Kind::Blend => first_outside(&masks[2], 2, d, dwords_of(Kind::Blend)),
+    if is_blend(kind) {
+        return first_outside(&masks[2], 2, d, dwords_of(Kind::Blend));
     }
+    if is_colour(kind) {
+        return first_outside(&masks[1], 1, d, dwords_of(Kind::ColourCalc));
+    }
+    first_outside(&masks[0], 1, d, dwords_of(Kind::Viewport))
 }
 
 fn is_nowhere(held: Held) -> bool

@@ -1,13 +1,14 @@
 -- `plain_look::seen_by_header` meets its contract: an arm for each key of type 0, and the other rows for any other header.
 -- Assumes nothing.
-use Prim.Native.Nat.{ℕ, _*_, _/_, _^_, _<_}
+use Prim.Native.Nat.{ℕ, _+_, _*_, _/_, _^_, _<_}
 use native.Mathlib.Omega.{arith}
-use mathlib.Core.Path.{_≡_, refl, sym, _∙_}
+use mathlib.Core.Path.{_≡_, refl, sym, ap, _∙_}
 use mathlib.Core.List.{List}
 use lib.ListN.{length, getD, drop}
 use lib.Dec.{lit<}
 use borrow.Author.Needs.{needs}
 use denote.Ref.{now}
+use Rattle.rules.specs.Words.{field}
 use Rattle.rules.specs.Commands.{rows, theRow, rowFrom, rowOf, lengthOf}
 use Rattle.rules.specs.Uses.{usesByRow, accessOf}
 use Rattle.rules.specs.Values.{valueRules, ruleOf}
@@ -15,7 +16,7 @@ use Rattle.rules.specs.Step.{headerAt, rowAt}
 use Rattle.rules.proofs.Keys.{key-0, key-3}
 use Rattle.plain_look.specs.Seeing.{OfType3}
 use Rattle.plain_shared.proofs.Bare.{no-address}
-use Rattle.plain_look.proofs.Deciding.{lent, never-nested, any-level, exactly-long, sees-within, sees-bare, sees-alone, sees-at-level}
+use Rattle.plain_look.proofs.Deciding.{header-first, lent, never-nested, any-level, exactly-long, sees-within, sees-bare, sees-alone, sees-at-level}
 use Rattle.plain_look.proofs.seen_by_header.Statement.{statement}
 use Rattle.plain_look.proofs.seen_by_header.Tie as tie
 
@@ -40,9 +41,9 @@ set-registers-requires : tie.Need-set-registers-requires
 unfolding rows rowFrom
 set-registers-requires c κs = let k = c .before .before in lent-to (k .before .before .before) (k .match .keys4) (lit< tt) refl (c .from2 .ensures)
 
-store-requires : tie.Need-store-requires
+seen-store-requires : tie.Need-seen-store-requires
 unfolding rows rowFrom
-store-requires c κs = let k = c .before .before in lent-to (k .before .before .before) (k .match .keys5) (lit< tt) refl (c .from3 .ensures)
+seen-store-requires c κs = let k = c .before in lent-to (k .before .before .before) (k .match .keys5) (lit< tt) refl (c .from3 .ensures)
 
 store-register-requires : tie.Need-store-register-requires
 unfolding rows rowFrom
@@ -88,19 +89,20 @@ sees-set-registers c =
 sees-store : tie.Need-returns-5
 unfolding rows theRow rowFrom lengthOf usesByRow accessOf valueRules ruleOf
 sees-store c =
-    let k = c .before .before .before .before in
+    let k = c .before .before in
     let s = k .before .before .before in
-    sees-within _ (now (s .args .batch)) (s .args .at) (s .args .level) 4 (lit< tt) (row-is s (k .match .keys5) (lit< tt) refl) _ (c .found5 .ensures)
-    (λ q. c .before .before .before .length-by-field2 .ensures)
-    (c .before .store .ensures ∙ sym (any-level _ 4 _ (s .args .level) (never-nested 4 (s .args .level) (λ e. omega arith))))
-    (c .before .before .from3 .ensures)
+    let first = header-first (now (s .args .batch)) (s .args .at) in
+    sees-within _ (now (s .args .batch)) (s .args .at) (s .args .level) 4 (lit< tt) (row-is s (k .match .keys5) (lit< tt) refl) _ (c .seen-store .ensures)
+    (λ q. ap (λ (h : ℕ). field h 7 0 + 2) (ap (λ (l : List ℕ). getD l 0 0) (c .before .from3 .ensures) ∙ first))
+    (sym (any-level _ 4 _ (s .args .level) (never-nested 4 (s .args .level) (λ e. omega arith))))
+    (c .before .from3 .ensures)
 
 sees-store-register : tie.Need-returns-6
 unfolding rows theRow rowFrom lengthOf usesByRow accessOf valueRules ruleOf
 sees-store-register c =
     let k = c .before .before .before in
     let s = k .before .before .before in
-    sees-within _ (now (s .args .batch)) (s .args .at) (s .args .level) 5 (lit< tt) (row-is s (k .match .keys6) (lit< tt) refl) _ (c .found6 .ensures)
+    sees-within _ (now (s .args .batch)) (s .args .at) (s .args .level) 5 (lit< tt) (row-is s (k .match .keys6) (lit< tt) refl) _ (c .found5 .ensures)
     (exactly-long 5 _ 2 refl) (c .before .store-register .ensures ∙ sym (any-level _ 5 _ (s .args .level) (never-nested 5 (s .args .level) (λ e. omega arith)))) (c .before .before .from4 .ensures)
 
 sees-load-register : tie.Need-returns-7
@@ -108,7 +110,7 @@ unfolding rows theRow rowFrom lengthOf usesByRow accessOf valueRules ruleOf
 sees-load-register c =
     let k = c .before .before .before in
     let s = k .before .before .before in
-    sees-within _ (now (s .args .batch)) (s .args .at) (s .args .level) 6 (lit< tt) (row-is s (k .match .keys7) (lit< tt) refl) _ (c .found7 .ensures)
+    sees-within _ (now (s .args .batch)) (s .args .at) (s .args .level) 6 (lit< tt) (row-is s (k .match .keys7) (lit< tt) refl) _ (c .found6 .ensures)
     (exactly-long 6 _ 2 refl) (c .before .load-register .ensures ∙ sym (any-level _ 6 _ (s .args .level) (never-nested 6 (s .args .level) (λ e. omega arith)))) (c .before .before .from5 .ensures)
 
 -- a header is a dword
@@ -135,7 +137,7 @@ seen-by-header-spec =
     end-requires (λ c κs. search needs)
     (λ c κs. search needs) start-requires (λ c κs. search needs)
     (λ c κs. search needs) (λ c κs. search needs) set-registers-requires (λ c κs. search needs)
-    (λ c κs. search needs) (λ c κs. search needs) store-requires (λ c κs. search needs)
+    (λ c κs. search needs) seen-store-requires
     (λ c κs. search needs) store-register-requires (λ c κs. search needs)
     (λ c κs. search needs) load-register-requires (λ c κs. search needs)
     (λ c κs. (c .before .before .before .pre, of-type-3 c))

@@ -1,4 +1,4 @@
--- `plain_look::seen_of_type_3` meets its contract: an arm for each key, and no row has any other.
+-- `plain_look::seen_of_type_3` meets its contract: an arm or a test for each key, and no row has any other.
 -- Assumes nothing.
 use Prim.Native.Nat.{ℕ, _+_, _*_, _/_, _^_, _<_}
 use mathlib.Core.Path.{_≡_, refl, sym, _∙_}
@@ -48,68 +48,72 @@ unfolding rows theRow rowFrom lengthOf usesByRow accessOf valueRules ruleOf
 seen-of-type-3-spec =
     tie.close
     (tie.spec (λ c. search needs) (λ c. search needs)
-    (λ c κs. search needs) (λ c κs. let k = c .before in lent-to (k .before .before .before) (k .if1 .taken) refl (c .from .ensures)) (λ c κs. search needs)
+    (λ c κs. search needs) (λ c κs. let k = c .before in lent-to (k .before .before .before) (k .match .keys1) refl (c .from .ensures)) (λ c κs. search needs)
+    (λ c κs. row-is (c .before .before .before) (c .match .keys2) refl) (λ c κs. search needs)
+    (λ c κs. search needs) (λ c κs. let k = c .before in lent-to (k .before .before .before) (k .match .keys3) refl (c .from2 .ensures)) (λ c κs. search needs)
+    (λ c κs. search needs) (λ c κs. search needs)
+    (λ c κs. let k = c .before .before in lent-to (k .before .before .before) (k .match .keys4) refl (c .from3 .ensures)) (λ c κs. search needs)
+    (λ c κs. search needs) (λ c κs. search needs)
+    (λ c κs. let k = c .before .before in lent-to (k .before .before .before) (k .match .keys5) refl (c .from4 .ensures)) (λ c κs. search needs)
+    (λ c κs. search needs) (λ c κs. let k = c .before in lent-to (k .before .before .before) (k .match .keys6) refl (c .from5 .ensures)) (λ c κs. search needs)
+    (λ c κs. search needs) (λ c κs. let k = c .before in lent-to (k .before .before .before) (k .match .keys7) refl (c .from6 .ensures)) (λ c κs. search needs)
+    (λ c κs. search needs) (λ c κs. let k = c .before in lent-to (k .before .before .before) (k .match .keys8) refl (c .from7 .ensures)) (λ c κs. search needs)
+    (λ c κs. search needs) (λ c κs. let k = c .before in lent-to (k .before .before .before) (k .match .keys9) refl (c .from8 .ensures)) (λ c κs. search needs)
+    (λ c κs. search needs) (λ c κs. let k = c .before in lent-to (k .before .before .before) (k .match .keys10) refl (c .from9 .ensures)) (λ c κs. search needs)
+    (λ c κs. search needs) (λ c κs. let k = c .before in lent-to (k .before .before .before .before) (k .if1 .taken) refl (c .from10 .ensures)) (λ c κs. search needs)
     (λ c.
     let k = c .before .before .before in
-    alone (k .before .before .before) (k .if1 .taken) refl (lit< tt) _ (c .found .ensures) (c .before .before .from .ensures)
-    (exactly-long 13 _ 0 refl) (c .before .topology .ensures) (no-address 13 refl))
-    (λ c κs. search needs) (λ c κs. let k = c .before in lent-to (k .before .before .before .before) (k .match .keys1) refl (c .from2 .ensures)) (λ c κs. search needs)
-    (λ c κs. row-is (c .before .before .before .before) (c .match .keys2) refl) (λ c κs. search needs)
-    (λ c κs. search needs) (λ c κs. let k = c .before in lent-to (k .before .before .before .before) (k .match .keys3) refl (c .from3 .ensures)) (λ c κs. search needs)
-    (λ c κs. search needs) (λ c κs. search needs)
-    (λ c κs. let k = c .before .before in lent-to (k .before .before .before .before) (k .match .keys4) refl (c .from4 .ensures)) (λ c κs. search needs)
-    (λ c κs. search needs) (λ c κs. search needs)
-    (λ c κs. let k = c .before .before in lent-to (k .before .before .before .before) (k .match .keys5) refl (c .from5 .ensures)) (λ c κs. search needs)
-    (λ c κs. search needs) (λ c κs. let k = c .before in lent-to (k .before .before .before .before) (k .match .keys6) refl (c .from6 .ensures)) (λ c κs. search needs)
-    (λ c κs. search needs) (λ c κs. let k = c .before in lent-to (k .before .before .before .before) (k .match .keys7) refl (c .from7 .ensures)) (λ c κs. search needs)
-    (λ c κs. search needs) (λ c κs. let k = c .before in lent-to (k .before .before .before .before) (k .match .keys8) refl (c .from8 .ensures)) (λ c κs. search needs)
-    (λ c κs. search needs) (λ c κs. let k = c .before in lent-to (k .before .before .before .before) (k .match .keys9) refl (c .from9 .ensures)) (λ c κs. search needs)
-    (λ c κs. search needs) (λ c κs. let k = c .before in lent-to (k .before .before .before .before) (k .match .keys10) refl (c .from10 .ensures)) (λ c κs. search needs)
+    alone (k .before .before .before .before) (k .if1 .taken) refl (lit< tt) _ (c .found11 .ensures) (c .before .before .from10 .ensures)
+    (exactly-long 17 _ 0 refl) (c .before .blend .ensures) (no-address 17 refl))
     (λ c κs. search needs) (λ c κs. search needs)
     (λ c.
     let k = c .before .before .before in
-    within (k .before .before .before .before) (k .match .keys1) refl (lit< tt) _ (c .found2 .ensures) (c .before .before .from2 .ensures)
+    within (k .before .before .before) (k .match .keys1) refl (lit< tt) _ (c .found .ensures) (c .before .before .from .ensures)
     (exactly-long 7 _ 4 refl) (c .before .pipe .ensures))
     (λ c.
     let k = c .before .before in
-    let s = k .before .before .before .before in
-    sees-alone _ (now (s .args .batch)) (s .args .at) First 8 (lit< tt) (row-is s (k .match .keys2) refl) _ (c .found3 .ensures)
+    let s = k .before .before .before in
+    sees-alone _ (now (s .args .batch)) (s .args .at) First 8 (lit< tt) (row-is s (k .match .keys2) refl) _ (c .found2 .ensures)
     (c .before .select .ensures) refl (s .pre .0) refl refl refl refl)
     (λ c.
     let k = c .before .before .before in
-    alone (k .before .before .before .before) (k .match .keys3) refl (lit< tt) _ (c .found4 .ensures) (c .before .before .from3 .ensures)
+    alone (k .before .before .before) (k .match .keys3) refl (lit< tt) _ (c .found3 .ensures) (c .before .before .from2 .ensures)
     (exactly-long 9 _ 14 refl) (c .before .base .ensures) bases-unasked)
     (λ c.
     let k = c .before .before .before .before in
-    within (k .before .before .before .before) (k .match .keys4) refl (lit< tt) _ (c .found5 .ensures) (c .before .before .from4 .ensures)
+    within (k .before .before .before) (k .match .keys4) refl (lit< tt) _ (c .found4 .ensures) (c .before .before .from3 .ensures)
     (λ q. c .before .before .before .length-by-field .ensures) (c .before .vertex-buffers .ensures))
     (λ c.
     let k = c .before .before .before .before in
-    alone (k .before .before .before .before) (k .match .keys5) refl (lit< tt) _ (c .found6 .ensures) (c .before .before .from5 .ensures)
+    alone (k .before .before .before) (k .match .keys5) refl (lit< tt) _ (c .found5 .ensures) (c .before .before .from4 .ensures)
     (λ q. c .before .before .before .length-by-field2 .ensures) (c .before .vertex-elements .ensures) (no-address 11 refl))
     (λ c.
     let k = c .before .before .before in
-    within (k .before .before .before .before) (k .match .keys6) refl (lit< tt) _ (c .found7 .ensures) (c .before .before .from6 .ensures)
+    within (k .before .before .before) (k .match .keys6) refl (lit< tt) _ (c .found6 .ensures) (c .before .before .from5 .ensures)
     (exactly-long 12 _ 3 refl) (c .before .index-buffer .ensures))
     (λ c.
     let k = c .before .before .before in
-    alone (k .before .before .before .before) (k .match .keys7) refl (lit< tt) _ (c .found8 .ensures) (c .before .before .from7 .ensures)
+    alone (k .before .before .before) (k .match .keys7) refl (lit< tt) _ (c .found7 .ensures) (c .before .before .from6 .ensures)
+    (exactly-long 13 _ 0 refl) (c .before .topology .ensures) (no-address 13 refl))
+    (λ c.
+    let k = c .before .before .before in
+    alone (k .before .before .before) (k .match .keys8) refl (lit< tt) _ (c .found8 .ensures) (c .before .before .from7 .ensures)
     (exactly-long 14 _ 0 refl) (c .before .viewport .ensures) (no-address 14 refl))
     (λ c.
     let k = c .before .before .before in
-    alone (k .before .before .before .before) (k .match .keys8) refl (lit< tt) _ (c .found9 .ensures) (c .before .before .from8 .ensures)
+    alone (k .before .before .before) (k .match .keys9) refl (lit< tt) _ (c .found9 .ensures) (c .before .before .from8 .ensures)
     (exactly-long 15 _ 0 refl) (c .before .colour .ensures) (no-address 15 refl))
     (λ c.
     let k = c .before .before .before in
-    alone (k .before .before .before .before) (k .match .keys9) refl (lit< tt) _ (c .found10 .ensures) (c .before .before .from9 .ensures)
+    alone (k .before .before .before) (k .match .keys10) refl (lit< tt) _ (c .found10 .ensures) (c .before .before .from9 .ensures)
     (exactly-long 16 _ 5 refl) (c .before .primitive .ensures) (no-address 16 refl))
     (λ c.
-    let k = c .before .before .before in
-    alone (k .before .before .before .before) (k .match .keys10) refl (lit< tt) _ (c .found11 .ensures) (c .before .before .from10 .ensures)
-    (exactly-long 17 _ 0 refl) (c .before .blend .ensures) (no-address 17 refl))
-    (λ c.
-    let k = c .before .before in
-    let s = k .before .before .before .before in
+    let last = c .before .before in
+    let k = last .before in
+    let s = k .before .before .before in
+    let keys = k .match .rest in
     sees-nothing _ (now (s .args .batch)) (s .args .at) First _
-    (unknown-3 (headerAt (now (s .args .batch)) (s .args .at) / 2 ^ 16) (k .before .if1 .left) (k .match .rest) ∙ sym (s .pre .1))
+    (unknown-3 (headerAt (now (s .args .batch)) (s .args .at) / 2 ^ 16) (keys .0 .0 .0 .1)
+    ((((keys .0 .0 .0 .0, keys .0 .0 .1), keys .0 .1), keys .1), last .if1 .left)
+    ∙ sym (s .pre .1))
     (c .found12 .ensures .2 ∙ c .before .at .ensures)))

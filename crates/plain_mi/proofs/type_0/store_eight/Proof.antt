@@ -1,6 +1,7 @@
 -- `plain_mi::type_0::store_eight` meets its contract: one test after the other.
 -- Assumes nothing.
 use Prim.Native.Nat.{ℕ}
+use native.Mathlib.Omega.{arith}
 use mathlib.Core.Path.{_≡_, ap, _∙_}
 use mathlib.Core.Bool.{not}
 use lib.ListN.{drop}
@@ -11,6 +12,7 @@ use Rattle.rules.specs.Commands.{storeRow}
 use Rattle.plain_shared.specs.Plain.{wrongOf}
 use Rattle.plain_shared.proofs.Tests.{asked, answered, refuses, passes, own-past, own-answer}
 use Rattle.plain_shared.proofs.Fitting.{scratch-holds}
+use Rattle.plain_mi.proofs.Kept.{low-kept}
 use Rattle.plain_mi.proofs.Stores.{Store, eight-tests, eight-bytes}
 use Rattle.plain_mi.proofs.type_0.store_eight.Statement.{statement}
 use Rattle.plain_mi.proofs.type_0.store_eight.Tie as tie
@@ -29,29 +31,42 @@ Left c k =
 all-left : (c : tie.Else1) → Left c 0
 all-left c = own-answer (own (c .before)) (c .if1 .left)
 
-low-kept : (c : tie.Else2) → Left (c .before .before .before) 1
-low-kept c = passes 2561 _ (asked (c .before .allowed .ensures) (c .if2 .left)) (all-left (c .before .before .before))
+-- where the address is not a multiple of eight
+abbrev unaligned : tie.After-allowed → tie.Then2
+unaligned c = c .before .before
 
-abbrev low : tie.Else3 → tie.Else2
+abbrev behind-length : tie.After-allowed → tie.Else1
+behind-length c = unaligned c .before .before
+
+mask-kept : (c : tie.Else3) → Left (behind-length (c .before)) 1
+mask-kept c = passes 2561 _ (asked (c .before .allowed .ensures) (c .if3 .left)) (all-left (behind-length (c .before)))
+
+-- and where it is one, which keeps the mask
+abbrev low : tie.Else2 → tie.Else1
 low c = c .before .before
 
-aligned : (c : tie.Else3) → Left (low c .before .before .before) 2
-aligned c = passes 3073 _ (ap not (eq-eqb _ _ (c .if3 .left))) (low-kept (low c))
+aligned : (c : tie.Else2) → Left (low c) 2
+aligned c =
+    let fits = low c .before .shared-slice-known .given 1 .fits in
+    passes 3073 _ (ap not (eq-eqb _ _ (c .if2 .left)))
+    (passes 2561 _ (ap not (low-kept _ (omega (arith, c .if2 .left)) fits)) (all-left (low c)))
 
-abbrev eights : tie.Else4 → tie.Else3
+abbrev eights : tie.Else4 → tie.Else2
 eights c = c .before .before .before
 
-high-right : (c : tie.Else4) → Left (low (eights c) .before .before .before) 3
+high-right : (c : tie.Else4) → Left (low (eights c)) 3
 high-right c = passes 3074 _ (asked (c .before .canonical .ensures) (c .if4 .left)) (aligned (eights c))
 
 pub store-eight-spec : {M : Type 1} → statement M
 store-eight-spec =
     tie.close
     (tie.spec (λ c κs. search needs) (λ c. c .at .ensures ∙ own-past (own (c .before .before)) (c .before .if1 .taken))
-    (λ c. search needs) (λ c κs. search needs) (λ c κs. search needs)
-    (λ c. let test = c .before .before in c .at2 .ensures ∙ refuses 2561 _ (asked (test .allowed .ensures) (c .before .if2 .taken)) (all-left (test .before .before)))
-    (λ c. search needs) (λ c κs. search needs)
-    (λ c. c .at3 .ensures ∙ refuses 3073 _ (ap not (ne-eqb _ _ (c .before .if3 .taken))) (low-kept (c .before .before .before)))
+    (λ c. search needs) (λ c. search needs) (λ c κs. search needs) (λ c κs. search needs)
+    (λ c.
+    let test = c .before .before in
+    c .at2 .ensures ∙ refuses 2561 _ (asked (test .allowed .ensures) (c .before .if3 .taken)) (all-left (behind-length test)))
+    (λ c κs. search needs)
+    (λ c. c .at3 .ensures ∙ refuses 3073 _ (ap not (ne-eqb _ _ (unaligned (c .before .before) .if2 .taken))) (mask-kept (c .before)))
     (λ c. search needs) (λ c κs. search needs) (λ c κs. search needs)
     (λ c. let test = c .before .before in c .at4 .ensures ∙ refuses 3074 _ (asked (test .canonical .ensures) (c .before .if4 .taken)) (aligned (test .before .before)))
     (λ c. search needs) (λ c. search needs) (λ c κs. search needs) (λ c κs. search needs) (λ c κs. search needs)
