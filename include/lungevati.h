@@ -3,14 +3,14 @@
  * Archive libapi.a, made by `rt staticlib api`, has lungevati_check, lungevati_check_no_base, lungevati_read, lungevati_write and lungevati_turn;
  * libapi_table.a, made by `rt staticlib api_table`, has lungevati_check_table and lungevati_check_table_no_base. Both link into one program.
  *
- * The numbers, places and rules are those of document 01. A reason is 0 (accepted, read, written, or turned) or one of its refusal numbers.
- * Each call returns whatever comes in, allocates nothing and keeps nothing between calls.
+ * The numbers, places and rules are those of docs/RULES.md: document 01 and the requests behind it. A reason is 0 (accepted, read, written, or turned)
+ * or one of the refusal numbers there. Each call returns, whatever comes in, allocates nothing and keeps nothing between calls.
  *
  * The caller promises what no checker can test: each pointer is valid for the length given with it, and not null even
  * where that is 0; memory that is lent to be written overlaps nothing else that is lent to the same call. And it leaves the
  * floating-point exceptions masked, as they are when a program starts: an unmasked one may trap on the numbers of a capture.
  * All other floating-point modes are the caller's: how it rounds, or that it makes zeros of denormals, changes no answer, and
- * a call leaves the modes as they were.
+ * a call leaves the modes as they were. (It may set the flags that say which exceptions there were.)
  */
 #ifndef LUNGEVATI_H
 #define LUNGEVATI_H
@@ -77,7 +77,7 @@ struct lungevati_answer lungevati_check_no_base(const uint32_t *batch, size_t ba
 /*
  * The question of lungevati_check, asked of the table engine: the same answer and the same records for every capture, which is proved, from other code. The plain
  * engine behind lungevati_check decides by each command's header and has its rules written out; this one looks every dword up in a table. It
- * takes 1.1 to 1.9 times the instructions, and is for whoever wants a second way to the answer.
+ * takes about as many instructions or up to twice as many, by which commands there are, and is for whoever wants a second way to the answer.
  */
 struct lungevati_answer lungevati_check_table(const uint32_t *batch, size_t batch_len, uint64_t batch_at,
                                               const uint32_t *state, size_t state_len, uint64_t state_at,
