@@ -413,7 +413,7 @@ fn one_line(wish: Wish, line: &mut [u8; LINE_BYTES], name: &[u8], look: Look) ->
     }
 }
 
-// A line is written whole, so that the lines of audits that run side by side do not mix. If it cannot be written, it is said why.
+// A line is written whole, so that the lines of audits that run side by side do not mix (in a pipe, lines of up to 4,096 bytes). If it cannot be written, it is said why.
 fn write_front(line: &[u8], end: usize) -> bool
     requires { ⌜ end ≤ length (now line) ⌝ }
 {
