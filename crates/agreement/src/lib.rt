@@ -1,4 +1,6 @@
 // Both engines give the same answers: the theorem about their calls, as a function that asks both.
+#![tactic(auto)]
+
 ghost use Rattle.agreement.specs.Engines.{SameAnswers};
 
 use rules::{Answer, BaseChoice};

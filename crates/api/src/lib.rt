@@ -1,4 +1,6 @@
 // The calls for programs in C: thin exports over the proved library. include/lungevati.h declares them.
+#![tactic(auto)]
+
 ghost use Rattle.std.specs.Prelude.{◌≡◌};
 ghost use Rattle.rules.specs.declared.BaseChoice.TheVariants.{StateWindow, NoBase};
 ghost use Rattle.rules.specs.Records.{CheckedFrom};

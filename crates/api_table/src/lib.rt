@@ -1,4 +1,6 @@
 // The table engine for programs in C: a thin export over the proved library. include/lungevati.h declares it.
+#![tactic(auto)]
+
 ghost use Rattle.rules.specs.declared.BaseChoice.TheVariants.{StateWindow, NoBase};
 ghost use Rattle.rules.specs.Records.{CheckedFrom};
 ghost use Rattle.walk.specs.Lent.{lent_capture};

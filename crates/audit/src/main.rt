@@ -1,5 +1,7 @@
 // A line for each capture that is named, in plain words or as JSON, and last the totals. Argument 1 says how, in letters: j for JSON, q without
 // the captures that are accepted, s for names that come on descriptor 5, n to start with no base; the other arguments are names.
+#![tactic(auto)]
+
 ghost use Rattle.std.specs.Prelude.{◌≡◌, ◌<◌, ◌≤◌, length, take};
 ghost use Rattle.lines.specs.Lines.{name_bytes};
 ghost use Rattle.members.specs.Strings.{quoted};

@@ -1,4 +1,6 @@
 // The capture file: batch dwords, state dwords, then a trailer of 40 bytes. Read, and judged.
+#![tactic(auto)]
+
 ghost use Rattle.std.specs.Prelude.{◌≡◌};
 ghost use Rattle.rules.specs.File.{FileRead, opened_told, JudgedFrom};
 ghost use Rattle.rules.specs.declared.Opened.TheVariants.{NotRead};

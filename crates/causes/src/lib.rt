@@ -1,4 +1,6 @@
 // What happened at a refused command: where it stands, told by the records of the commands before it, which it is, and what it reaches.
+#![tactic(auto)]
+
 ghost use Rattle.std.specs.Prelude.{◌≡◌, ◌-◌, ◌≤◌, ◌<◌, length, take};
 ghost use Rattle.rules.specs.Commands.{spot};
 ghost use Rattle.rules.specs.Records.{command_of, commands_in, words_for};

@@ -1,4 +1,6 @@
 // The parts of what audit and compose say, in plain words: `parts` of a line, the `details` of a refusal, and `why` a file was not read.
+#![tactic(auto)]
+
 ghost use Rattle.std.specs.Prelude.{◌≡◌};
 ghost use Rattle.clauses.specs.Clauses.{is_missing};
 

@@ -1,5 +1,7 @@
 // Writes the commands that lines name, `ROW FREE DWORD..`, one a line, from the file that an argument names or from standard input, and
 // prints their dwords. They are printed only once every line is written: of an input that is refused nothing is.
+#![tactic(auto)]
+
 ghost use Rattle.std.specs.Prelude.{◌+◌, ◌≤◌, length};
 ghost use Rattle.compose.specs.Reading.{Within};
 ghost use Rattle.lines.specs.Lines.{name_bytes};

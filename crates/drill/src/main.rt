@@ -3,6 +3,8 @@
 // The lines are data, so a case is added without a proof. What they mean is said at their head (crates/drill/stdin). What this program
 // must print is derived from document 01 by tests/drill, which obeys the same lines with a checker of its own. The reader of capture files
 // has lines of its own, which a program in C obeys (tests/reader).
+#![tactic(auto)]
+
 mod obey;
 mod reading;
 mod sayings;

@@ -1,4 +1,6 @@
 // What is known of codes: surface formats, topologies, registers, and the factors and functions of a blend.
+#![tactic(auto)]
+
 ghost use Rattle.std.specs.Prelude.{◌≡◌, not, ◌&&◌, eqb, ltb, get_or};
 ghost use Rattle.rules.specs.Words.{bit};
 ghost use Rattle.rules.specs.Formats.{between, known_topology, known_register, named_factor, named_function};

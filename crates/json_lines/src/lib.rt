@@ -1,4 +1,6 @@
 // What audit says for other programs: the line of a file, and the line of the totals, each an object of JSON.
+#![tactic(auto)]
+
 ghost use Rattle.std.specs.Prelude.{◌≡◌, ◌+◌, ◌≤◌, length};
 ghost use Rattle.lines.specs.Lines.{Put, Line};
 ghost use Rattle.members.specs.Strings.{quoted};

@@ -1,4 +1,6 @@
 // Putting bytes into a line. Each function puts something at a place and answers the place behind it.
+#![tactic(auto)]
+
 ghost use Rattle.std.specs.Prelude.{◌≡◌, [], ◌∷◌, ◌+◌, ◌≤◌, ◌<◌, length};
 ghost use Rattle.rules.specs.Printout.{digits_of};
 ghost use Rattle.lines.specs.Lines.{Put};

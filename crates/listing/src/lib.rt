@@ -1,4 +1,6 @@
 // Turning an old listing, of records of one word, into the new form of two words (request 7): the words of the one in, those of the other in a lent buffer out.
+#![tactic(auto)]
+
 ghost use Rattle.std.specs.Prelude.{◌≡◌, ◌≤◌, length, get_or};
 ghost use Rattle.rules.specs.declared.Verdict.TheVariants.{Pass, Fails};
 ghost use Rattle.rules.specs.Words.{first_of};

@@ -1,5 +1,7 @@
 // Prints document 01's printout of each capture that an argument names, or of the one on standard input. Argument 1 says how, in letters: n to start
 // with no base; the other arguments are names.
+#![tactic(auto)]
+
 ghost use Rattle.std.specs.Prelude.{◌≡◌, ◌≤◌, length};
 ghost use Rattle.lines.specs.Lines.{name_bytes};
 

@@ -1,4 +1,6 @@
 // The parts of an object of JSON: each is put at a place, and the place behind it comes back. A part begins with its key, which closes what stands before it.
+#![tactic(auto)]
+
 ghost use Rattle.std.specs.Prelude.{◌+◌, ◌≤◌, [], ◌∷◌, ◌++◌, length};
 ghost use Rattle.rules.specs.Printout.{decimal, bytes};
 ghost use Rattle.lines.specs.Lines.{Put};

@@ -1,5 +1,7 @@
 // A name as it is shown on one line: what can be read stands as it is, every other byte is written out, and two names never give the same text;
 // and where a name ends in a file of names.
+#![tactic(auto)]
+
 ghost use Rattle.std.specs.Prelude.{◌+◌, ◌-◌, ◌*◌, ◌≤◌, ◌<◌, ◌≡◌, [], length, get_or, drop};
 ghost use Rattle.rules.specs.Formats.{between};
 ghost use Rattle.lines.specs.Lines.{Put, Line};

@@ -1,4 +1,6 @@
 // Where an accepted command leads.
+#![tactic(auto)]
+
 ghost use Rattle.std.specs.Prelude.{◌≡◌, ◌-◌, ◌/◌};
 ghost use Rattle.rules.specs.Uses.{address_at};
 ghost use Rattle.rules.specs.Step.{after_end, level_after_start, base_after, level_number};

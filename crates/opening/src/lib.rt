@@ -1,4 +1,6 @@
 // What a capture file says of itself: its trailer of 40 bytes, its refusals (19, 20, 1 and 21), and its dwords.
+#![tactic(auto)]
+
 ghost use Rattle.std.specs.Prelude.{◌≡◌, ◌+◌, ◌-◌, ◌*◌, ◌≤◌, ◌<◌, length};
 ghost use Rattle.rules.specs.File.{word, long_word, trailer_bytes, trailer_of, contents_of};
 ghost use Rattle.rules.specs.File.{offer, distance_wrong, file_counts_wrong, buffer_short, opened_of};

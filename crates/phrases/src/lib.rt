@@ -1,4 +1,6 @@
 // The tables of words. A row is filled up with spaces: so a table is one constant, which the check takes in less time than an arm for each text.
+#![tactic(auto)]
+
 ghost use Rattle.std.specs.Prelude.{◌+◌, ◌≤◌, ◌≡◌, length};
 ghost use Rattle.lines.specs.Lines.{Put};
 ghost use Rattle.phrases.specs.Rows.{trimmed, Width};

@@ -1,4 +1,6 @@
 // The plain engine's public calls: each command by a straight decision on its header and its rules written out (plain_mi, plain_vertex, plain_3d, plain_look).
+#![tactic(auto)]
+
 ghost use Rattle.rules.specs.declared.BaseChoice.TheVariants.{StateWindow};
 ghost use Rattle.rules.specs.Records.{CheckedFrom};
 ghost use Rattle.walk.specs.Lent.{lent_capture};

@@ -1,4 +1,6 @@
 // The plain engine: the checks 7 to 13 of the command at a position by a straight decision on its header, and then by the function of its row.
+#![tactic(auto)]
+
 ghost use Rattle.std.specs.Prelude.{◌≡◌, ◌+◌, ◌<◌, length, get_or, drop};
 ghost use Rattle.rules.specs.declared.Level.TheVariants.{First};
 ghost use Rattle.rules.specs.Words.{field};

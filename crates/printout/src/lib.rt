@@ -1,4 +1,6 @@
 // The printout, in decimal and ASCII: the line of an answer, the line of a record, and the lines of records gathered in a page.
+#![tactic(auto)]
+
 ghost use Rattle.std.specs.Prelude.{◌≡◌, [], ◌∷◌, ◌++◌, ◌+◌, ◌≤◌, length};
 ghost use Rattle.rules.specs.Printout.{decimal, answer_line, command_line, record_line};
 ghost use Rattle.rules.specs.Records.{command_of};

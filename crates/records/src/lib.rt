@@ -1,4 +1,6 @@
 // What a run leaves: the record of a command, written to its two words, and in `answers` the answer.
+#![tactic(auto)]
+
 ghost use Rattle.std.specs.Prelude.{◌≡◌, ◌<◌, length, set};
 ghost use Rattle.rules.specs.Records.{Recordable, first_word, second_word};
 

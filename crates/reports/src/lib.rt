@@ -1,4 +1,6 @@
 // What the programs share of a run over files: the letters of the word that says how it is to go, the worst status, and the line that tells it.
+#![tactic(auto)]
+
 ghost use Rattle.std.specs.Prelude.{◌≡◌, ◌≤◌, min, max};
 ghost use Rattle.reports.specs.Reports.{has_letter, base_choice, status_line};
 

@@ -1,4 +1,6 @@
 // Which row a header is, and how many dwords its command has.
+#![tactic(auto)]
+
 ghost use Rattle.std.specs.Prelude.{◌≡◌, cond, ◌+◌, ◌*◌, ◌^◌, ◌<◌, drop};
 ghost use Rattle.rules.specs.Words.{bit};
 ghost use Rattle.rules.specs.Commands.{rows, row_from, row_of, length_of, group_size, length_right};

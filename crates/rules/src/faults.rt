@@ -6,6 +6,7 @@ ghost use Rattle.rules.specs.Refusals.{batch_window, fault, number_of};
 use crate::{Fault, Reason, Verdict};
 
 // Document 01's number for a reason.
+#[tactic(auto, unfolding(crate::specs::Refusals::number_of))]
 pub fn number(reason: Reason) -> u32
     ensures { result ≡ number_of reason }
 {

@@ -1,4 +1,6 @@
 // The types that answers are made of, and the names of the rows. What they mean is said in specs/, in the order and words of document 01.
+#![tactic(auto)]
+
 pub mod faults;
 pub mod names;
 

@@ -1,4 +1,6 @@
 // The search over a command's dwords, for 10, 12 and 13 alike: the header, then group after group, dword after dword.
+#![tactic(auto)]
+
 ghost use Rattle.std.specs.Prelude.{◌≡◌, [], ◌≤◌, ◌<◌, length, get_or};
 ghost use Rattle.rules.specs.Words.{first_of};
 ghost use Rattle.rules.specs.Formats.{surface_formats};

@@ -1,4 +1,6 @@
 // What audit says of a capture, in plain words: the line of a file, and the line of the totals. And what compose says of a line that is refused.
+#![tactic(auto)]
+
 ghost use Rattle.std.specs.Prelude.{◌≤◌, length};
 ghost use Rattle.lines.specs.Lines.{Line, name_bytes};
 ghost use Rattle.clauses.specs.Clauses.{refused_words, unread_words};

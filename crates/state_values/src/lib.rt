@@ -1,4 +1,6 @@
 // The values of a state structure: whether they break a rule (17), and what they are where they do not.
+#![tactic(auto)]
+
 ghost use Rattle.std.specs.Prelude.{◌≡◌, false, cond, [], ◌∷◌, ◌+◌, ◌-◌, ◌^◌, leb, get_or};
 ghost use Rattle.rules.specs.declared.Found.TheVariants.{Nothing};
 ghost use Rattle.rules.specs.Words.{first_of};

@@ -1,4 +1,6 @@
 // One step of the walk: the checks 6 to 17 of the command at the cursor, and where it leads.
+#![tactic(auto)]
+
 ghost use Rattle.std.specs.Prelude.{◌≡◌, length};
 ghost use Rattle.rules.specs.declared.Outcome.TheVariants.{Refused};
 ghost use Rattle.rules.specs.Refusals.{fault, batch_window};

@@ -1,4 +1,6 @@
 // Reading a state structure: a depth range, a colour state, a blend state, or why there is none.
+#![tactic(auto)]
+
 ghost use Rattle.std.specs.Prelude.{◌≡◌, ◌+◌, ◌^◌, ◌≤◌, ◌<◌};
 ghost use Rattle.rules.specs.Words.{first_of, in_group};
 ghost use Rattle.rules.specs.Refusals.{fault, first_fault};

@@ -1,4 +1,6 @@
 // The checks 7 to 13 of the command at a position by the table engine: every command goes through the table and the search.
+#![tactic(auto)]
+
 ghost use Rattle.std.specs.Prelude.{◌≡◌, cond, ◌+◌, ◌^◌, ◌≤◌, ◌<◌, length};
 ghost use Rattle.rules.specs.declared.Reason.TheVariants.{WrongLength, PastTheWindow};
 ghost use Rattle.rules.specs.Refusals.{fault, batch_window};

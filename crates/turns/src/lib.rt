@@ -1,4 +1,6 @@
 // The loop behind both engines: a capture whose windows are sound, run command by command, each with its record.
+#![tactic(auto)]
+
 ghost use Rattle.std.specs.Prelude.{◌≡◌, ◌^◌, ◌≤◌, ◌<◌, length};
 ghost use Rattle.rules.specs.declared.Verdict.TheVariants.{Fails};
 ghost use Rattle.rules.specs.Refusals.{answer_with};

@@ -1,4 +1,6 @@
 // The addresses that a command uses: whether its dword k, the dword j of its group, is the low dword of one, or the high dword.
+#![tactic(auto)]
+
 ghost use Rattle.std.specs.Prelude.{◌≡◌, [], ◌∷◌, ◌-◌, ◌<◌, length, get_or, eqb};
 ghost use Rattle.rules.specs.Words.{some};
 ghost use Rattle.rules.specs.Uses.{start_use, store_use, store_register_use, load_register_use, pipe_use, base_use, vertex_buffer_use, index_buffer_use, access_of, sized};

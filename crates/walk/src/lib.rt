@@ -1,5 +1,7 @@
 // Does the capture run to its end, and what did it do on the way? The public call `check` of the table engine, and the call behind both engines: 1 to 4, then
 // the run.
+#![tactic(auto)]
+
 ghost use Rattle.std.specs.Prelude.{◌≡◌};
 ghost use Rattle.rules.specs.declared.BaseChoice.TheVariants.{StateWindow};
 ghost use Rattle.rules.specs.Windows.{windows_of};

@@ -1,6 +1,8 @@
 // The windows of a capture: whether they are sound, which of them hold a range of bytes, and which holds a structure.
 // Addresses and lengths are any 64-bit numbers, so no end of a window is ever formed: distances are compared.
 // Tests are joined by `|` and `&`: none of them can fail, so there is nothing to branch around.
+#![tactic(auto)]
+
 ghost use Rattle.std.specs.Prelude.{◌≡◌, ◌+◌, ◌≤◌, ltb, length, take, drop};
 ghost use Rattle.rules.specs.declared.Within.TheVariants.{AnyWindow};
 ghost use Rattle.rules.specs.declared.Verdict.TheVariants.{Fails};

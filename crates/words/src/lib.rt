@@ -1,4 +1,6 @@
 // The two tests that every check of a dword or of an address comes down to; and `dwords`, which reads a command's dwords and addresses.
+#![tactic(auto)]
+
 ghost use Rattle.std.specs.Prelude.{◌≡◌};
 ghost use Rattle.rules.specs.Words.{allowed};
 ghost use Rattle.rules.specs.Windows.{holds};

@@ -1,4 +1,6 @@
 // The writer of commands (request 4): a row, its header's free bits and the dwords after the header in, the whole command in a lent buffer out.
+#![tactic(auto)]
+
 ghost use Rattle.std.specs.Prelude.{◌≡◌, true, not, [], ◌∷◌, ◌+◌, ◌-◌, ◌≤◌, ◌<◌, length, get_or, ltb};
 ghost use Rattle.rules.specs.declared.Verdict.TheVariants.{Pass, Fails};
 ghost use Rattle.rules.specs.Words.{allowed};

@@ -5,13 +5,13 @@ use Rattle.words.proofs.Ranges.{starts_before, starts_behind, starts_inside}
 use Rattle.words.proofs.holds.Statement.{statement}
 use Rattle.words.proofs.holds.Tie as tie
 
-returns : tie.Need-returns
+returns : tie.Need-returns-then-address-at
 returns c = starts_before _ _ _ (search rules)
 
-returns_2 : tie.Need-returns-2
+returns_2 : tie.Need-returns-then-room-skipped
 returns_2 c = starts_behind _ _ _ (search rules) (search rules)
 
-returns_3 : tie.Need-returns-3
+returns_3 : tie.Need-returns
 returns_3 c = starts_inside _ _ _ (search rules) (search rules)
 
 pub holds_spec : {M : Type 1} → statement M

@@ -11,4 +11,4 @@ unfolding address_at
 address_at_spec =
     tie.close
     (tie.spec (λ c. search rules) (λ c. search rules) (λ c. search rules) (λ c κs. search rules) (λ c κs. search rules)
-    (λ c. c.address-of.ensures ∙ rw c.before.dword.ensures))
+    (λ c. c.address_of.ensures ∙ rw c.before.dword.ensures))

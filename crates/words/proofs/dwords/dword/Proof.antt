@@ -10,4 +10,4 @@ pub dword_spec : {M : Type 1} → statement M
 dword_spec =
     tie.close
     (tie.spec (λ c. search rules) (λ c. search rules) (λ c. search rules)
-    (λ c. sym (get_or-eq_default c.before.args.command.now 0 c.if1.false)))
+    (λ c. sym (get_or-eq_default c.before.args.command.now 0 c.if-k-command.false)))
