@@ -4,7 +4,7 @@
 use rules::Fault;
 
 // A command that passes them, by its row and its length; or the first fault.
-#[derive(Drop)]
+#[derive(Clone, Copy)]
 pub enum Look {
     Whole(usize, usize),
     Wrong(Fault),

@@ -24,7 +24,7 @@ use rules::names::{
 use rules::{Level, Windows};
 
 // What is seen of a command: its row, its length, and what is wrong with it (`numbers`). ROWS is no row.
-#[derive(Drop)]
+#[derive(Clone, Copy)]
 struct Seen {
     row: usize,
     length: usize,

@@ -5,7 +5,7 @@ pub mod faults;
 pub mod names;
 
 // Why a capture is refused, in document 01's order: its numbers 1 to 21. 22 is the writer's, of request 4.
-#[derive(Drop)]
+#[derive(Clone, Copy)]
 pub enum Reason {
     WrongCounts,
     AddressUnaligned,
@@ -32,7 +32,7 @@ pub enum Reason {
 }
 
 // A reason and its place: window 0 is the batch, window 1 the state.
-#[derive(Drop)]
+#[derive(Clone, Copy)]
 pub struct Fault {
     pub reason: Reason,
     pub window: usize,
@@ -40,7 +40,7 @@ pub struct Fault {
 }
 
 // What one check says.
-#[derive(Drop)]
+#[derive(Clone, Copy)]
 pub enum Verdict {
     Pass,
     Fails(Fault),
@@ -48,7 +48,7 @@ pub enum Verdict {
 
 // The answer to a capture: reason 0 is accepted.
 #[repr(C)]
-#[derive(Drop)]
+#[derive(Clone, Copy)]
 pub struct Answer {
     pub reason: u32,
     pub window: u32,
@@ -58,7 +58,7 @@ pub struct Answer {
 
 // The answer to a listing that is turned (request 7), which may have more than 2^32 words.
 #[repr(C)]
-#[derive(Drop)]
+#[derive(Clone, Copy)]
 pub struct LongAnswer {
     pub reason: u32,
     pub window: u32,
@@ -67,14 +67,14 @@ pub struct LongAnswer {
 }
 
 // A window: its address, and its length in bytes.
-#[derive(Drop)]
+#[derive(Clone, Copy)]
 pub struct Window {
     pub at: u64,
     pub bytes: u64,
 }
 
 // The three windows of a capture, as numbers.
-#[derive(Drop)]
+#[derive(Clone, Copy)]
 pub struct Windows {
     pub batch: Window,
     pub state: Window,
@@ -82,7 +82,7 @@ pub struct Windows {
 }
 
 // Which windows an address range may lie in.
-#[derive(Drop)]
+#[derive(Clone, Copy)]
 pub enum Within {
     BatchOnly,
     ScratchOnly,
@@ -90,7 +90,7 @@ pub enum Within {
 }
 
 // Whether a dword is the low dword of an address that its command uses: for how many bytes, and where they may lie; or used with no range asked.
-#[derive(Drop)]
+#[derive(Clone, Copy)]
 pub enum Access {
     Unused,
     Reaches(u64, Within),
@@ -98,7 +98,7 @@ pub enum Access {
 }
 
 // Which of the two lent windows holds a structure, and at which dword it starts there.
-#[derive(Drop)]
+#[derive(Clone, Copy)]
 pub enum Held {
     InBatch(usize),
     InState(usize),
@@ -106,7 +106,7 @@ pub enum Held {
 }
 
 // The structures that a command can point to.
-#[derive(Drop)]
+#[derive(Clone, Copy)]
 pub enum Kind {
     Viewport,
     ColourCalc,
@@ -114,14 +114,14 @@ pub enum Kind {
 }
 
 // Whether a command points to a structure: which, and how many bytes above the dynamic state base.
-#[derive(Drop)]
+#[derive(Clone, Copy)]
 pub enum Pointer {
     NoPointer,
     PointsTo(Kind, u32),
 }
 
 // What reading a structure gives back: a depth range, a colour state, a blend state, which has no floats, or its refusal.
-#[derive(Drop)]
+#[derive(Clone, Copy)]
 pub enum Reading {
     Depths(f32, f32),
     Colour(f32, f32, f32, f32),
@@ -130,35 +130,35 @@ pub enum Reading {
 }
 
 // The first place that a search finds, if there is one.
-#[derive(Drop)]
+#[derive(Clone, Copy)]
 pub enum Found {
     At(usize),
     Nothing,
 }
 
 // The level of a run. At the second the position to return to is kept.
-#[derive(Drop)]
+#[derive(Clone, Copy)]
 pub enum Level {
     First,
     Second(usize),
 }
 
 // The dynamic state base.
-#[derive(Drop)]
+#[derive(Clone, Copy)]
 pub enum Base {
     Unset,
     Set(u64),
 }
 
 // Which base a walk starts with (request 5): the state window's address, which is the default, or none.
-#[derive(Drop)]
+#[derive(Clone, Copy)]
 pub enum BaseChoice {
     StateWindow,
     NoBase,
 }
 
 // Where a walk stands.
-#[derive(Drop)]
+#[derive(Clone, Copy)]
 pub struct Cursor {
     pub at: usize,
     pub level: Level,
@@ -166,7 +166,7 @@ pub struct Cursor {
 }
 
 // A command that was accepted.
-#[derive(Drop)]
+#[derive(Clone, Copy)]
 pub struct Command {
     pub index: usize,
     pub level: usize,
@@ -175,28 +175,28 @@ pub struct Command {
 }
 
 // Where an accepted command leads.
-#[derive(Drop)]
+#[derive(Clone, Copy)]
 pub enum After {
     Ends,
     To(Cursor),
 }
 
 // What one step of the walk gives.
-#[derive(Drop)]
+#[derive(Clone, Copy)]
 pub enum Outcome {
     Taken(Command, After),
     Refused(Fault),
 }
 
 // A window that a capture file fills: its address, and its count of dwords.
-#[derive(Drop)]
+#[derive(Clone, Copy)]
 pub struct Filled {
     pub at: u64,
     pub count: usize,
 }
 
 // What a capture file holds beside its dwords.
-#[derive(Drop)]
+#[derive(Clone, Copy)]
 pub struct Contents {
     pub batch: Filled,
     pub state: Filled,
@@ -204,7 +204,7 @@ pub struct Contents {
 }
 
 // What reading a capture file gives back.
-#[derive(Drop)]
+#[derive(Clone, Copy)]
 pub enum Opened {
     Holds(Contents),
     NotRead(Reason),

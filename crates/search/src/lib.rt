@@ -18,7 +18,7 @@ use windows::access_wrong;
 use words::dwords::address_at;
 
 // What a search over a command's dwords looks for: a bit that is not allowed (10), a value rule broken (12), a range that does not fit (13).
-#[derive(Drop)]
+#[derive(Clone, Copy)]
 pub enum Sought {
     Bits,
     Values,

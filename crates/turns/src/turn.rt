@@ -61,7 +61,7 @@ fn fresh(s: Cursor) -> Cursor
 
 // The level's number is for the record of the command at the cursor. Taken here, and not where the record is made, it spares the compiler
 // keeping this turn's level beside the next one's, in every command.
-#[derive(Drop)]
+#[derive(Clone, Copy)]
 pub struct Turn {
     pub cursor: Cursor,
     pub level: usize,

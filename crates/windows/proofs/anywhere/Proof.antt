@@ -8,23 +8,23 @@ use Rattle.rules.specs.Windows.{windows_within, fits}
 use Rattle.windows.proofs.anywhere.Statement.{statement}
 use Rattle.windows.proofs.anywhere.Tie as tie
 
-in_scratch_lem : tie.Need-returns
+in_scratch_lem : tie.Need-returns-then-holds
 unfolding some windows_within fits
-in_scratch_lem c = simp (sym c.before.holds.ensures ∙ c.if1.true, or-true)
+in_scratch_lem c = simp (sym c.before.holds.ensures ∙ c.if-holds.true, or-true)
 
-in_batch : tie.Need-returns-2
+in_batch : tie.Need-returns-then-holds-2
 unfolding some windows_within fits
-in_batch c = simp (sym c.before.holds2.ensures ∙ c.if2.true)
+in_batch c = simp (sym c.before.holds-2.ensures ∙ c.if-holds-2.true)
 
-in_state : tie.Need-returns-3
+in_state : tie.Need-returns
 unfolding some windows_within fits
 in_state c =
     let batch = c.before.before in
     let scratch = batch.before.before in
     simp (
-      c.holds3.ensures,
-      sym batch.holds2.ensures ∙ c.before.if2.false,
-      sym scratch.holds.ensures ∙ batch.before.if1.false,
+      c.holds-3.ensures,
+      sym batch.holds-2.ensures ∙ c.before.if-holds-2.false,
+      sym scratch.holds.ensures ∙ batch.before.if-holds.false,
       or-false,
     )
 

@@ -5,10 +5,10 @@ use Rattle.windows.proofs.Ends.{before_start, from_start}
 use Rattle.windows.proofs.below_end.Statement.{statement}
 use Rattle.windows.proofs.below_end.Tie as tie
 
-returns : tie.Need-returns
+returns : tie.Need-returns-then-address-at
 returns c = before_start _ c.before.args.w (search rules)
 
-returns_2 : tie.Need-returns-2
+returns_2 : tie.Need-returns
 returns_2 c = from_start _ c.before.before.args.w (search rules)
 
 pub below_end_spec : {M : Type 1} → statement M

@@ -7,16 +7,16 @@ use Rattle.rules.specs.Windows.{windows_within, fits}
 use Rattle.windows.proofs.fits.Statement.{statement}
 use Rattle.windows.proofs.fits.Tie as tie
 
-returns : tie.Need-returns
+returns : tie.Need-returns-in-BatchOnly
 unfolding some windows_within fits
-returns c = simp (c.before.enum_told.given.1, or-false) c.holds.ensures
+returns c = simp (c.before.enum_told-1.given.1, or-false) c.holds.ensures
 
-returns_2 : tie.Need-returns-2
+returns_2 : tie.Need-returns-in-ScratchOnly
 unfolding some windows_within fits
-returns_2 c = simp (c.before.enum-told2.given.1, or-false) c.holds2.ensures
+returns_2 c = simp (c.before.enum_told-in-ScratchOnly-1.given.1, or-false) c.holds-in-ScratchOnly.ensures
 
-returns_3 : tie.Need-returns-3
-returns_3 c = simp c.before.enum-told3.given.1 c.anywhere.ensures
+returns_3 : tie.Need-returns-in-AnyWindow
+returns_3 c = simp c.before.enum_told-in-AnyWindow-1.given.1 c.anywhere.ensures
 
 pub fits_spec : {M : Type 1} → statement M
 fits_spec =

@@ -8,31 +8,31 @@ use Rattle.windows.proofs.held.Statement.{statement}
 use Rattle.windows.proofs.held.Tie as tie
 
 sub_t6 : tie.Need-overflow-sub-t6
-sub_t6 c = starts_above _ _ _ (sym c.before.before.holds-dwords.ensures ∙ c.before.if1.true)
+sub_t6 c = starts_above _ _ _ (sym c.before.before.holds_dwords.ensures ∙ c.before.if-holds_dwords.true)
 
-returns : tie.Need-returns
+returns : tie.Need-returns-then-holds_dwords
 unfolding held_at
-returns c = simp (sym c.before.before.holds-dwords.ensures ∙ c.before.if1.true)
+returns c = simp (sym c.before.before.holds_dwords.ensures ∙ c.before.if-holds_dwords.true)
 
 sub_t10 : tie.Need-overflow-sub-t10
-sub_t10 c = starts_above _ _ _ (sym c.before.before.holds-dwords2.ensures ∙ c.before.if2.true)
+sub_t10 c = starts_above _ _ _ (sym c.before.before.holds_dwords-2.ensures ∙ c.before.if-holds_dwords-2.true)
 
-returns_2 : tie.Need-returns-2
+returns_2 : tie.Need-returns-then-holds_dwords-2
 unfolding held_at
 returns_2 c =
     let state = c.before.before in
     let batch = state.before.before in
     simp (
-      sym batch.holds-dwords.ensures ∙ state.before.if1.false,
-      sym state.holds-dwords2.ensures ∙ c.before.if2.true,
+      sym batch.holds_dwords.ensures ∙ state.before.if-holds_dwords.false,
+      sym state.holds_dwords-2.ensures ∙ c.before.if-holds_dwords-2.true,
     )
 
-returns_3 : tie.Need-returns-3
+returns_3 : tie.Need-returns
 unfolding held_at
 returns_3 c =
     simp (
-      sym c.before.before.before.holds-dwords.ensures ∙ c.before.before.if1.false,
-      sym c.before.holds-dwords2.ensures ∙ c.if2.false,
+      sym c.before.before.before.holds_dwords.ensures ∙ c.before.before.if-holds_dwords.false,
+      sym c.before.holds_dwords-2.ensures ∙ c.if-holds_dwords-2.false,
     )
 
 pub held_spec : {M : Type 1} → statement M
