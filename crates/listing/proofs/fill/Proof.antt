@@ -8,23 +8,23 @@ use Rattle.listing.proofs.Filling.{Filling, fill_starts, fill_goes_on, fill_ends
 use Rattle.listing.proofs.fill.Statement.{statement}
 use Rattle.listing.proofs.fill.Tie as tie
 
-abbrev invariant_loop : tie.invariant_loop
+abbrev invariant_loop : tie.invariant-loop-i
 invariant_loop old new₀ i₀ new i = Filling old new₀ new i
 
-abbrev decreases_loop : tie.decreases_loop
+abbrev decreases_loop : tie.decreases-loop-i
 decreases_loop old new₀ i₀ new i = length old - i
 
-loop_holds : tie.Need-loop-init invariant_loop decreases_loop
+loop_holds : tie.Need-loop-i-init invariant_loop decreases_loop
 loop_holds c = fill_starts (search rules)
 
-second_fits : tie.Need-slice-write-new-2 invariant_loop decreases_loop
+second_fits : tie.Need-bounds-new-second invariant_loop decreases_loop
 second_fits c = rw length-set (omega arith)
 
-loop_again : tie.Need-loop-preserved invariant_loop decreases_loop
-loop_again c = rw (c.second_word.ensures, c.before.first_word.ensures) (fill_goes_on c.before.before.before.before.loop.invariant (search rules))
+loop_again : tie.Need-loop-i-preserved invariant_loop decreases_loop
+loop_again c = rw (c.second_word.ensures, c.first_word.ensures) (fill_goes_on c.loop-i.invariant (search rules))
 
 returns : tie.Need-returns invariant_loop decreases_loop
-returns c = fill_ends c.before.loop.invariant (search rules)
+returns c = fill_ends c.loop-i.invariant (search rules)
 
 pub fill_spec : {M : Type 1} → statement M
 fill_spec =

@@ -16,40 +16,40 @@ use Rattle.listing.proofs.first_stray.Tie as tie
 abbrev bad : List ℕ → ℕ → Bool
 bad old i = stray_bits (get_or old i 0)
 
-abbrev invariant_loop : tie.invariant_loop
+abbrev invariant_loop : tie.invariant-loop-i
 invariant_loop old i₀ i = (i ≤ length old) × (first_of (bad old) (length old) ≡ first_from (bad old) i (length old - i))
 
-abbrev decreases_loop : tie.decreases_loop
+abbrev decreases_loop : tie.decreases-loop-i
 decreases_loop old i₀ i = length old - i
 
 -- the turn of the loop in which a word was asked, and the listing
-abbrev turn : tie.After-stray invariant_loop decreases_loop → tie.At-loop invariant_loop decreases_loop
+abbrev turn : tie.After-stray invariant_loop decreases_loop → tie.At-loop-i invariant_loop decreases_loop
 turn c = c.before.before.before
 
-abbrev listing : tie.At-loop invariant_loop decreases_loop → List ℕ
-listing c = c.before.before.args.old.now
+abbrev listing : tie.At-loop-i invariant_loop decreases_loop → List ℕ
+listing c = c.args.old.now
 
 -- a word is left, the one that is asked
 one_left : (c : tie.After-stray invariant_loop decreases_loop) → let l = turn c in
-    first_of (bad (listing l)) (length (listing l)) ≡ first_from (bad (listing l)) l.loop.i (suc (length (listing l) - (l.loop.i + 1)))
-one_left c = let l = turn c in l.loop.inv.1 ∙ ap (first_from (bad (listing l)) l.loop.i) (omega arith)
+    first_of (bad (listing l)) (length (listing l)) ≡ first_from (bad (listing l)) l.loop-i.i (suc (length (listing l) - (l.loop-i.i + 1)))
+one_left c = let l = turn c in l.loop-i.invariant.1 ∙ ap (first_from (bad (listing l)) l.loop-i.i) (omega arith)
 
-returns : tie.Need-returns invariant_loop decreases_loop
+returns : tie.Need-returns-then-stray invariant_loop decreases_loop
 returns c =
     let l = turn c.before in
-    sym (one_left c.before ∙ search_stops (bad (listing l)) l.loop.i _ (sym c.before.stray.ensures ∙ c.if1.true))
+    sym (one_left c.before ∙ search_stops (bad (listing l)) l.loop-i.i _ (sym c.stray.ensures ∙ c.if-stray.true))
 
-loop_again : tie.Need-loop-preserved invariant_loop decreases_loop
+loop_again : tie.Need-loop-i-preserved invariant_loop decreases_loop
 loop_again c =
     let l = turn c.before in
-    (search rules, one_left c.before ∙ search_passes (bad (listing l)) l.loop.i _ (sym c.before.stray.ensures ∙ c.if1.false))
+    (search rules, one_left c.before ∙ search_passes (bad (listing l)) l.loop-i.i _ (sym c.stray.ensures ∙ c.if-stray.false))
 
-returns_2 : tie.Need-returns-2 invariant_loop decreases_loop
+returns_2 : tie.Need-returns invariant_loop decreases_loop
 unfolding first_from
 returns_2 c =
     let l = c.before in
-    let none : length (listing l) - l.loop.i ≡ 0 = omega arith in
-    sym (l.loop.invariant.1 ∙ ap (first_from (bad (listing l)) l.loop.i) none)
+    let none : length (listing l) - l.loop-i.i ≡ 0 = omega arith in
+    sym (l.loop-i.invariant.1 ∙ ap (first_from (bad (listing l)) l.loop-i.i) none)
 
 pub first_stray_spec : {M : Type 1} → statement M
 first_stray_spec =

@@ -11,46 +11,46 @@ use Rattle.listing.proofs.turn.Statement.{statement}
 use Rattle.listing.proofs.turn.Tie as tie
 
 -- where the search has answered: the listing, and the buffer as it is lent
-abbrev listing : tie.After-first-stray → List ℕ
-listing c = c.before.before.before.args.old.now
+abbrev listing : tie.After-first_stray → List ℕ
+listing c = c.args.old.now
 
-abbrev buffer : tie.After-first-stray → List ℕ
-buffer c = c.before.before.before.args.new.now
+abbrev buffer : tie.After-first_stray → List ℕ
+buffer c = c.args.new.now
 
 -- it has found nothing
-abbrev searched : tie.After-enum-told → tie.After-first-stray
-searched c = c.before.before
+abbrev searched : tie.In_default → tie.After-first_stray
+searched c = c.before
 
-none_stray : (c : tie.After-enum-told) → first_stray (listing (searched c)) ≡ Nothing
-none_stray c = sym (searched c).first-stray.ensures ∙ c.enum_told.given.1
+none_stray : (c : tie.In_default) → first_stray (listing (searched c)) ≡ Nothing
+none_stray c = sym (searched c).first_stray.ensures ∙ c.in_default.is
 
 -- 10
-stray : tie.Need-returns
+stray : tie.Need-returns-in-At
 stray c =
-    let found = c.before.before in
-    let s = found.before.before in
-    as_judged _ (stray_fails (listing s) (length (buffer s)) (sym s.first-stray.ensures ∙ found.i.given.1)) c.refused.ensures refl
+    let found = c.before in
+    let s = found.before in
+    as_judged _ (stray_fails (listing s) (length (buffer s)) (sym s.first_stray.ensures ∙ found.in-At.is)) c.refused.ensures refl
 
 -- 18
-full : tie.Need-returns-2
+full : tie.Need-returns-then-new-old
 full c =
     let clear = c.before.before in
     let s = searched clear in
-    as_judged _ (full_fails (listing s) (length (buffer s)) (none_stray clear) c.before.if1.true) c.refused2.ensures refl
+    as_judged _ (full_fails (listing s) (length (buffer s)) (none_stray clear) c.if-new-old.true) c.refused-then-new-old.ensures refl
 
 -- and neither
 fits : tie.Need-fill-requires
 fits c κs =
     let s = searched c.before.before in
-    has_room (listing s) (length (buffer s)) c.before.if1.false
+    has_room (listing s) (length (buffer s)) c.if-new-old.false
 
-turned : tie.Need-returns-3
+turned : tie.Need-returns
 turned c =
     let filled = c.before.before in
     let room = filled.before.before in
     let clear = room.before in
     let s = searched clear in
-    as_judged _ (none_fails (listing s) (length (buffer s)) (none_stray clear) room.if1.false) refl filled.fill.ensures
+    as_judged _ (none_fails (listing s) (length (buffer s)) (none_stray clear) room.if-new-old.false) refl filled.fill.ensures
 
 pub turn_spec : {M : Type 1} → statement M
 turn_spec =

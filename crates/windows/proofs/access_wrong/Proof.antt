@@ -10,4 +10,4 @@ pub access_wrong_spec : {M : Type 1} → statement M
 access_wrong_spec =
     tie.close
     (tie.spec (λ c. search rules) (λ c. search rules) (λ c κs. search rules) (λ c. search rules) (λ c. search rules)
-    (λ c. rw c.before.before.access-1.given.1 (ap not c.fits2.ensures)) (λ c. search rules))
+    (λ c. rw c.in-Reaches.is (ap not c.fits.ensures)) (λ c. search rules))

@@ -10,11 +10,11 @@ use Rattle.windows.proofs.anywhere.Tie as tie
 
 in_scratch_lem : tie.Need-returns-then-holds
 unfolding some windows_within fits
-in_scratch_lem c = simp (sym c.before.holds.ensures ∙ c.if-holds.true, or-true)
+in_scratch_lem c = simp (sym c.holds.ensures ∙ c.if-holds.true, or-true)
 
 in_batch : tie.Need-returns-then-holds-2
 unfolding some windows_within fits
-in_batch c = simp (sym c.before.holds-2.ensures ∙ c.if-holds-2.true)
+in_batch c = simp (sym c.holds-2.ensures ∙ c.if-holds-2.true)
 
 in_state : tie.Need-returns
 unfolding some windows_within fits
@@ -23,8 +23,8 @@ in_state c =
     let scratch = batch.before.before in
     simp (
       c.holds-3.ensures,
-      sym batch.holds-2.ensures ∙ c.before.if-holds-2.false,
-      sym scratch.holds.ensures ∙ batch.before.if-holds.false,
+      sym batch.holds-2.ensures ∙ c.if-holds-2.false,
+      sym scratch.holds.ensures ∙ batch.if-holds.false,
       or-false,
     )
 

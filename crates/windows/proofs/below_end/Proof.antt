@@ -6,10 +6,10 @@ use Rattle.windows.proofs.below_end.Statement.{statement}
 use Rattle.windows.proofs.below_end.Tie as tie
 
 returns : tie.Need-returns-then-address-at
-returns c = before_start _ c.before.args.w (search rules)
+returns c = before_start _ c.args.w (search rules)
 
 returns_2 : tie.Need-returns
-returns_2 c = from_start _ c.before.before.args.w (search rules)
+returns_2 c = from_start _ c.args.w (search rules)
 
 pub below_end_spec : {M : Type 1} → statement M
 below_end_spec = tie.close (tie.spec returns returns_2)

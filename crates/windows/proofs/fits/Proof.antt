@@ -9,14 +9,14 @@ use Rattle.windows.proofs.fits.Tie as tie
 
 returns : tie.Need-returns-in-BatchOnly
 unfolding some windows_within fits
-returns c = simp (c.before.enum_told-1.given.1, or-false) c.holds.ensures
+returns c = simp (c.in-BatchOnly.is, or-false) c.holds.ensures
 
 returns_2 : tie.Need-returns-in-ScratchOnly
 unfolding some windows_within fits
-returns_2 c = simp (c.before.enum_told-in-ScratchOnly-1.given.1, or-false) c.holds-in-ScratchOnly.ensures
+returns_2 c = simp (c.in-ScratchOnly.is, or-false) c.holds-in-ScratchOnly.ensures
 
 returns_3 : tie.Need-returns-in-AnyWindow
-returns_3 c = simp c.before.enum_told-in-AnyWindow-1.given.1 c.anywhere.ensures
+returns_3 c = simp c.in-AnyWindow.is c.anywhere.ensures
 
 pub fits_spec : {M : Type 1} → statement M
 fits_spec =

@@ -7,15 +7,15 @@ use Rattle.windows.proofs.Holding.{starts_above}
 use Rattle.windows.proofs.held.Statement.{statement}
 use Rattle.windows.proofs.held.Tie as tie
 
-sub_t6 : tie.Need-overflow-sub-t6
-sub_t6 c = starts_above _ _ _ (sym c.before.before.holds_dwords.ensures ∙ c.before.if-holds_dwords.true)
+sub_t6 : tie.Need-overflow_sub-result
+sub_t6 c = starts_above _ _ _ (sym c.holds_dwords.ensures ∙ c.if-holds_dwords.true)
 
 returns : tie.Need-returns-then-holds_dwords
 unfolding held_at
-returns c = simp (sym c.before.before.holds_dwords.ensures ∙ c.before.if-holds_dwords.true)
+returns c = simp (sym c.holds_dwords.ensures ∙ c.if-holds_dwords.true)
 
-sub_t10 : tie.Need-overflow-sub-t10
-sub_t10 c = starts_above _ _ _ (sym c.before.before.holds_dwords-2.ensures ∙ c.before.if-holds_dwords-2.true)
+sub_t10 : tie.Need-overflow_sub-result-then-holds_dwords-2
+sub_t10 c = starts_above _ _ _ (sym c.holds_dwords-2.ensures ∙ c.if-holds_dwords-2.true)
 
 returns_2 : tie.Need-returns-then-holds_dwords-2
 unfolding held_at
@@ -23,16 +23,16 @@ returns_2 c =
     let state = c.before.before in
     let batch = state.before.before in
     simp (
-      sym batch.holds_dwords.ensures ∙ state.before.if-holds_dwords.false,
-      sym state.holds_dwords-2.ensures ∙ c.before.if-holds_dwords-2.true,
+      sym batch.holds_dwords.ensures ∙ state.if-holds_dwords.false,
+      sym state.holds_dwords-2.ensures ∙ c.if-holds_dwords-2.true,
     )
 
 returns_3 : tie.Need-returns
 unfolding held_at
 returns_3 c =
     simp (
-      sym c.before.before.before.holds_dwords.ensures ∙ c.before.before.if-holds_dwords.false,
-      sym c.before.holds_dwords-2.ensures ∙ c.if-holds_dwords-2.false,
+      sym c.holds_dwords.ensures ∙ c.if-holds_dwords.false,
+      sym c.holds_dwords-2.ensures ∙ c.if-holds_dwords-2.false,
     )
 
 pub held_spec : {M : Type 1} → statement M

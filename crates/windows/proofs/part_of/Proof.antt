@@ -6,22 +6,22 @@ use Rattle.windows.proofs.part_of.Statement.{statement}
 use Rattle.windows.proofs.part_of.Tie as tie
 
 part_requires : tie.Need-part-requires
-part_requires c κs = let start = c.before.before.before.before.before in rw c.before.held-1.given.1 at start.requires
+part_requires c κs = let start = c.before.before.before in rw c.in-InBatch.is at start.requires
 
 part_requires_2 : tie.Need-part-requires-in-InState
-part_requires_2 c κs = let start = c.before.before.before.before.before in rw c.before.held-in-InState-1.given.1 at start.requires
+part_requires_2 c κs = let start = c.before.before.before in rw c.in-InState.is at start.requires
 
 returns : tie.Need-returns-in-InBatch
 unfolding part_of
-returns c = rw c.before.before.held-1.given.1 c.part.ensures
+returns c = rw c.in-InBatch.is c.part.ensures
 
 returns_2 : tie.Need-returns-in-InState
 unfolding part_of
-returns_2 c = rw c.before.before.held-in-InState-1.given.1 c.part-in-InState.ensures
+returns_2 c = rw c.in-InState.is c.part-in-InState.ensures
 
 returns_3 : tie.Need-returns-in-Nowhere
 unfolding part_of
-returns_3 c = rw c.before.enum_told-1.given.1
+returns_3 c = rw c.in-Nowhere.is
 
 pub part_of_spec : {M : Type 1} → statement M
 part_of_spec =

@@ -9,7 +9,7 @@ use Rattle.windows.proofs.some_share.Tie as tie
 returns : tie.Need-returns
 unfolding some some_two
 returns c =
-    simp (c.before.before.share_byte.ensures, c.before.share_byte-2.ensures, c.share_byte-3.ensures, or-false)
+    simp (c.share_byte.ensures, c.share_byte-2.ensures, c.share_byte-3.ensures, or-false)
 
 pub some_share_spec : {M : Type 1} → statement M
 some_share_spec = tie.close (tie.spec (λ c κs. search rules) (λ c κs. search rules) (λ c κs. search rules) returns)

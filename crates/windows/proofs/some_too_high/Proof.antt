@@ -9,7 +9,7 @@ use Rattle.windows.proofs.some_too_high.Tie as tie
 returns : tie.Need-returns
 unfolding some
 returns c =
-    simp (c.before.before.ends_too_high.ensures, c.before.ends_too_high-2.ensures, c.ends_too_high-3.ensures, or-false)
+    simp (c.ends_too_high.ensures, c.ends_too_high-2.ensures, c.ends_too_high-3.ensures, or-false)
 
 pub some_too_high_spec : {M : Type 1} → statement M
 some_too_high_spec = tie.close (tie.spec (λ c κs. search rules) (λ c κs. search rules) (λ c κs. search rules) returns)

@@ -8,7 +8,7 @@ use Rattle.windows.proofs.some_unaligned.Tie as tie
 
 returns : tie.Need-returns
 unfolding some
-returns c = simp (c.before.before.unaligned.ensures, c.before.unaligned-2.ensures, c.unaligned-3.ensures, or-false)
+returns c = simp (c.unaligned.ensures, c.unaligned-2.ensures, c.unaligned-3.ensures, or-false)
 
 pub some_unaligned_spec : {M : Type 1} → statement M
 some_unaligned_spec = tie.close (tie.spec (λ c κs. search rules) (λ c κs. search rules) (λ c κs. search rules) returns)

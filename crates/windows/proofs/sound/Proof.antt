@@ -14,35 +14,35 @@ start c = c.before.before.before
 
 -- what has passed before the second check, the third and the fourth
 counts_right : (c : tie.After-some_unaligned)
-    → counts_wrong window_limit (start c).args.batch-count (start c).args.state-count ≡ false
-counts_right c = sym c.before.before.counts_wrong.ensures ∙ c.before.if-counts_wrong.false
+    → counts_wrong window_limit (start c).args.batch_count (start c).args.state_count ≡ false
+counts_right c = sym c.counts_wrong.ensures ∙ c.if-counts_wrong.false
 
 aligned : (c : tie.After-some_too_high) → some unaligned (listed (start c.before.before).args.w) ≡ false
-aligned c = sym c.before.before.some_unaligned_lem.ensures ∙ c.before.if-some_unaligned.false
+aligned c = sym c.some_unaligned.ensures ∙ c.if-some_unaligned.false
 
 low : (c : tie.After-some_share) → let second = c.before.before.before.before in some ends_too_high (listed (start second).args.w) ≡ false
-low c = sym c.before.before.some_too_high_lem.ensures ∙ c.before.if-some_too_high.false
+low c = sym c.some_too_high.ensures ∙ c.if-some_too_high.false
 
 wrong_counts : tie.Need-returns-then-counts_wrong
-wrong_counts c = simp (in_order_lem, sym c.before.before.counts_wrong.ensures ∙ c.before.if-counts_wrong.true) c.refused.ensures
+wrong_counts c = simp (in_order_lem, sym c.counts_wrong.ensures ∙ c.if-counts_wrong.true) c.refused.ensures
 
 some_unaligned_lem : tie.Need-returns-then-some_unaligned
 some_unaligned_lem c =
     let asked = c.before.before in
-    simp (in_order_lem, counts_right asked, sym asked.some_unaligned_lem.ensures ∙ c.before.if-some_unaligned.true) c.refused-then-some_unaligned.ensures
+    simp (in_order_lem, counts_right asked, sym asked.some_unaligned.ensures ∙ c.if-some_unaligned.true) c.refused-then-some_unaligned.ensures
 
 some_too_high_lem : tie.Need-returns-then-some_too_high
 some_too_high_lem c =
     let asked = c.before.before in
     let second = asked.before.before in
-    simp (in_order_lem, counts_right second, aligned asked, sym asked.some_too_high_lem.ensures ∙ c.before.if-some_too_high.true) c.refused-then-some_too_high.ensures
+    simp (in_order_lem, counts_right second, aligned asked, sym asked.some_too_high.ensures ∙ c.if-some_too_high.true) c.refused-then-some_too_high.ensures
 
 some_share : tie.Need-returns-then-some_share
 some_share c =
     let asked = c.before.before in
     let third = asked.before.before in
     let second = third.before.before in
-    simp (in_order_lem, counts_right second, aligned third, low asked, sym asked.some_share.ensures ∙ c.before.if-some_share.true) c.refused-then-some_share.ensures
+    simp (in_order_lem, counts_right second, aligned third, low asked, sym asked.some_share.ensures ∙ c.if-some_share.true) c.refused-then-some_share.ensures
 
 passes : tie.Need-returns
 passes c =

@@ -9,7 +9,7 @@ part_of_requires : tie.Need-part_of-requires
 part_of_requires c κs = within_its_window _ _ _ _ _ _ _ c.held_in-held.ensures
 
 returns : tie.Need-returns
-returns c = rw (← c.before.held_in-held.ensures) c.part_of.ensures
+returns c = rw (← c.held_in-held.ensures) c.part_of.ensures
 
 pub structure_spec : {M : Type 1} → statement M
 structure_spec = tie.close (tie.spec (λ c κs. search rules) part_of_requires returns)
