@@ -10,18 +10,18 @@ use Rattle.formats.proofs.known_register.Tie as tie
 between_requires : tie.Need-between-requires
 between_requires c κs = search rules
 
-returns : tie.Need-returns
+returns : tie.Need-returns-in-9216
 unfolding known_register
-returns c = simp (listed registers _ c.match.keys1)
+returns c = simp (listed registers _ c.in-9216.is)
 
-returns_2 : tie.Need-returns-2
+returns_2 : tie.Need-returns-then-register-eq0
 unfolding known_register
 returns_2 c =
-    simp (unlisted registers _ c.before.before.match.rest.1, eq-eqb _ _ c.before.if1.true) c.between.ensures
+    simp (unlisted registers _ c.in_default.in_default-own.rest.1, eq-eqb _ _ c.if-register-eq0.true) c.between.ensures
 
-returns_3 : tie.Need-returns-3
+returns_3 : tie.Need-returns-else-register-eq0
 unfolding known_register
-returns_3 c = simp (unlisted registers _ c.before.match.rest.1, ne_eqb _ _ c.if1.false)
+returns_3 c = simp (unlisted registers _ c.in_default.in_default-own.rest.1, ne_eqb _ _ c.if-register-eq0.false)
 
 pub known_register_spec : {M : Type 1} → statement M
 known_register_spec = tie.close (tie.spec between_requires returns returns_2 returns_3)

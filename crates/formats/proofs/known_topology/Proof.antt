@@ -18,7 +18,7 @@ past code h = simp (lt-leb code 0x14 (omega arith), ne_eqb code 0x16 (λ e. omeg
 
 returns : tie.Need-returns
 unfolding each same known_topology
-returns c = c.bit-of.ensures ∙ in_word 0xFFFFFFFF005FFFFE known_topology refl past c.before.args.code
+returns c = c.bit_of.ensures ∙ in_word 0xFFFFFFFF005FFFFE known_topology refl past c.args.code
 
 pub known_topology_spec : {M : Type 1} → statement M
 known_topology_spec = tie.close (tie.spec (λ c κs. search rules) returns)

@@ -11,8 +11,8 @@ use Rattle.formats.proofs.named_factor.Tie as tie
 returns : tie.Need-returns
 unfolding each same some blend_factors named_factor
 returns c =
-    c.bit-of.ensures
-    ∙ in_word 0x07BE07FE named_factor refl (λ code past. past_listed 64 code blend_factors refl past) c.before.args.code
+    c.bit_of.ensures
+    ∙ in_word 0x07BE07FE named_factor refl (λ code past. past_listed 64 code blend_factors refl past) c.args.code
 
 pub named_factor_spec : {M : Type 1} → statement M
 named_factor_spec = tie.close (tie.spec (λ c κs. search rules) returns)

@@ -7,7 +7,7 @@ use Rattle.opening.proofs.buffer_short.Tie as tie
 
 returns : tie.Need-returns
 unfolding trailer_of
-returns c = rw (c.before.trailer-word.ensures, c.trailer-word2.ensures)
+returns c = rw (c.trailer_word-batch.ensures, c.trailer_word-state.ensures)
 
 pub buffer_short_spec : {M : Type 1} → statement M
 buffer_short_spec =

@@ -10,7 +10,7 @@ unfolding trailer_of
 returns c =
     let state = c.before in
     let batch = state.before in
-    rw (c.length-for.ensures, batch.before.trailer-word.ensures, batch.trailer-word2.ensures, state.trailer-word3.ensures)
+    rw (c.length_for.ensures, batch.trailer_word-told.ensures, batch.trailer_word-batch.ensures, state.trailer_word-state.ensures)
 
 pub distance_wrong_spec : {M : Type 1} → statement M
 distance_wrong_spec =

@@ -6,20 +6,20 @@ use Rattle.opening.proofs.Filling.{Filling, fill_starts, fill_goes_on, fill_ends
 use Rattle.opening.proofs.fill.Statement.{statement}
 use Rattle.opening.proofs.fill.Tie as tie
 
-abbrev invariant_loop : tie.invariant_loop
+abbrev invariant_loop : tie.invariant-loop-i
 invariant_loop file from n buffer₀ i₀ buffer i = Filling file from n buffer₀ buffer i
 
-abbrev decreases_loop : tie.decreases_loop
+abbrev decreases_loop : tie.decreases-loop-i
 decreases_loop file from n buffer₀ i₀ buffer i = n - i
 
-loop_holds : tie.Need-loop-init invariant_loop decreases_loop
+loop_holds : tie.Need-loop-i-init invariant_loop decreases_loop
 loop_holds c = fill_starts
 
-loop_again : tie.Need-loop-preserved invariant_loop decreases_loop
-loop_again c = fill_goes_on c.before.before.loop.invariant (search rules) c.word_at.ensures
+loop_again : tie.Need-loop-i-preserved invariant_loop decreases_loop
+loop_again c = fill_goes_on c.loop-i.invariant (search rules) c.word_at.ensures
 
 returns : tie.Need-returns invariant_loop decreases_loop
-returns c = fill_ends c.before.loop.invariant (search rules) (search rules)
+returns c = fill_ends c.loop-i.invariant (search rules) (search rules)
 
 pub fill_spec : {M : Type 1} → statement M
 fill_spec =

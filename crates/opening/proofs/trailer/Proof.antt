@@ -11,12 +11,12 @@ returns c =
     let batch = c.before.before.before.before in
     let state = c.before.before in
     rw (
-      batch.before.long-word-at.ensures,
-      batch.trailer-word.ensures,
-      state.before.long-word-at2.ensures,
-      state.trailer-word2.ensures,
-      c.before.long-word-at3.ensures,
-      c.trailer-word3.ensures,
+      batch.long_word_at.ensures,
+      batch.trailer_word.ensures,
+      state.long_word_at-2.ensures,
+      state.trailer_word-2.ensures,
+      c.long_word_at-3.ensures,
+      c.trailer_word-3.ensures,
     )
 
 pub trailer_spec : {M : Type 1} → statement M

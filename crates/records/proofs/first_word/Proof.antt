@@ -7,7 +7,7 @@ use Rattle.records.proofs.first_word.Tie as tie
 
 returns : tie.Need-returns
 unfolding first_word
-returns c = rw c.before.requires.1
+returns c = rw c.requires.1
 
 pub first_word_spec : {M : Type 1} → statement M
 first_word_spec = tie.close (tie.spec (λ c. search rules) (λ c. search rules) (λ c. search rules) returns)

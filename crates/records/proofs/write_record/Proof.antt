@@ -5,7 +5,7 @@ use Rattle.records.proofs.write_record.Statement.{statement}
 use Rattle.records.proofs.write_record.Tie as tie
 
 returns : tie.Need-returns
-returns c = rw (c.before.first_word.ensures, c.second_word.ensures)
+returns c = rw (c.first_word-first.ensures, c.second_word-second.ensures)
 
 pub write_record_spec : {M : Type 1} → statement M
 write_record_spec =

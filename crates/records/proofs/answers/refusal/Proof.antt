@@ -7,7 +7,7 @@ use Rattle.records.proofs.answers.refusal.Tie as tie
 
 returns : tie.Need-returns
 unfolding answer_with
-returns c = rw c.before.before.number.ensures
+returns c = rw c.number.ensures
 
 pub refusal_spec : {M : Type 1} → statement M
 refusal_spec = tie.close (tie.spec (λ c κs. search rules) (λ c. search rules) (λ c. search rules) (λ c. search rules) returns)
