@@ -11,7 +11,7 @@ returns c =
     let third = c.before in
     let second = third.before in
     let first = second.before in
-    rw (first.between.ensures, second.between2.ensures, third.between3.ensures, c.between4.ensures)
+    rw (first.between.ensures, second.between-2.ensures, third.between-3.ensures, c.between-4.ensures)
 
 pub fits_spec : {M : Type 1} → statement M
 fits_spec =

@@ -7,23 +7,23 @@ use Rattle.names.proofs.Seeking.{Seeking, seek_starts, seek_goes_on, seek_finds,
 use Rattle.names.proofs.name_end.Statement.{statement}
 use Rattle.names.proofs.name_end.Tie as tie
 
-abbrev invariant_loop : tie.invariant_loop
+abbrev invariant_loop : tie.invariant-loop-i
 invariant_loop bytes from ending i₀ i = Seeking bytes from ending i
 
-abbrev decreases_loop : tie.decreases_loop
+abbrev decreases_loop : tie.decreases-loop-i
 decreases_loop bytes from ending i₀ i = length bytes - i
 
-loop_holds : tie.Need-loop-init invariant_loop decreases_loop
+loop_holds : tie.Need-loop-i-init invariant_loop decreases_loop
 loop_holds c = seek_starts (search rules)
 
-returns : tie.Need-returns invariant_loop decreases_loop
-returns c = seek_finds c.before.before.before.loop.invariant (search rules) c.if1.true
+returns : tie.Need-returns-then-bytes-i invariant_loop decreases_loop
+returns c = seek_finds c.loop-i.invariant (search rules) c.if-bytes-i.true
 
-loop_again : tie.Need-loop-preserved invariant_loop decreases_loop
-loop_again c = seek_goes_on c.before.before.before.loop.invariant (search rules) c.if1.false
+loop_again : tie.Need-loop-i-preserved invariant_loop decreases_loop
+loop_again c = seek_goes_on c.loop-i.invariant (search rules) c.if-bytes-i.false
 
-returns_2 : tie.Need-returns-2 invariant_loop decreases_loop
-returns_2 c = seek_ends c.before.loop.invariant (search rules)
+returns_2 : tie.Need-returns invariant_loop decreases_loop
+returns_2 c = seek_ends c.loop-i.invariant (search rules)
 
 pub name_end_spec : {M : Type 1} → statement M
 name_end_spec =

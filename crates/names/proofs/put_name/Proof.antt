@@ -9,29 +9,29 @@ use Rattle.lines.proofs.Pieces.{as_long}
 use Rattle.names.proofs.put_name.Statement.{statement}
 use Rattle.names.proofs.put_name.Tie as tie
 
-abbrev invariant_loop : tie.invariant_loop
+abbrev invariant_loop : tie.invariant-loop-i
 invariant_loop text₀ name at₀ left₀ i₀ text at left i = Showing name text₀ text at left i
 
-abbrev decreases_loop : tie.decreases_loop
+abbrev decreases_loop : tie.decreases-loop-i
 decreases_loop text₀ name at₀ left₀ i₀ text at left i = length name - i
 
-put_shown_requires : tie.Need-put-shown-requires invariant_loop decreases_loop
+put_shown_requires : tie.Need-put_shown-at-requires invariant_loop decreases_loop
 put_shown_requires c κs =
     let turn = c.before.before.before.before in
-    omega (arith, turn.loop.invariant.short, as_long turn.loop.invariant.pieces)
+    omega (arith, turn.loop-i.invariant.short, as_long turn.loop-i.invariant.pieces)
 
-loop_again : tie.Need-loop-preserved invariant_loop decreases_loop
+loop_again : tie.Need-loop-i-preserved invariant_loop decreases_loop
 loop_again c =
     let put = c.before.before.before in
     let stands = put.before.before.before in
     let turn = stands.before.before in
-    show_goes_on turn.loop.invariant (search rules) stands.Standing-on.ensures put.put-shown.ensures c.one_less.ensures
+    show_goes_on turn.loop-i.invariant (search rules) stands.standing_on-stands.ensures put.put_shown-at.ensures c.one_less-left.ensures
 
-same_length : tie.Need-same-length invariant_loop decreases_loop
-same_length c = as_long c.before.loop.invariant.pieces
+same_length : tie.Need-shape_of-text invariant_loop decreases_loop
+same_length c = as_long c.loop-i.invariant.pieces
 
 returns : tie.Need-returns invariant_loop decreases_loop
-returns c = show_ends c.before.loop.invariant (search rules) (search rules)
+returns c = show_ends c.loop-i.invariant (search rules) (search rules)
 
 pub put_name_spec : {M : Type 1} → statement M
 put_name_spec =

@@ -7,36 +7,36 @@ use Rattle.names.proofs.Trying.{Trying, try_starts, try_goes_on, try_finds, try_
 use Rattle.names.proofs.standing.Statement.{statement}
 use Rattle.names.proofs.standing.Tie as tie
 
-abbrev invariant_loop : tie.invariant_loop
+abbrev invariant_loop : tie.invariant-loop-i
 invariant_loop name at a b c d i₀ i = Trying name at a b c d i
 
-abbrev decreases_loop : tie.decreases_loop
+abbrev decreases_loop : tie.decreases-loop-i
 decreases_loop name at a b c d i₀ i = 15 - i
 
-loop_holds : tie.Need-loop-init invariant_loop decreases_loop
+loop_holds : tie.Need-loop-i-init invariant_loop decreases_loop
 loop_holds c =
     let third = c.before in
     let second = third.before in
     let first = second.before in
-    try_starts first.byte_at.ensures second.byte-at2.ensures third.byte-at3.ensures c.byte-at4.ensures
+    try_starts first.byte_at-a.ensures second.byte_at-b.ensures third.byte_at-c.ensures c.byte_at-d.ensures
 
-returns : tie.Need-returns invariant_loop decreases_loop
+returns : tie.Need-returns-then-fits invariant_loop decreases_loop
 returns c =
     let test = c.before.before in
-    let row = test.before.row_at.ensures in
+    let row = test.row_at-row.ensures in
     let turn = test.before.before.before in
     c.wide.ensures
-    ∙ rw row (try_finds turn.loop.invariant (search rules) (rw row at (sym test.fits2.ensures ∙ c.before.if1.true)))
+    ∙ rw row (try_finds turn.loop-i.invariant (search rules) (rw row at (sym test.fits.ensures ∙ c.if-fits.true)))
 
-loop_again : tie.Need-loop-preserved invariant_loop decreases_loop
+loop_again : tie.Need-loop-i-preserved invariant_loop decreases_loop
 loop_again c =
     let test = c.before in
-    let row = test.before.row_at.ensures in
+    let row = test.row_at-row.ensures in
     let turn = test.before.before.before in
-    try_goes_on turn.loop.invariant (search rules) (rw row at (sym test.fits2.ensures ∙ c.if1.false))
+    try_goes_on turn.loop-i.invariant (search rules) (rw row at (sym test.fits.ensures ∙ c.if-fits.false))
 
-returns_2 : tie.Need-returns-2 invariant_loop decreases_loop
-returns_2 c = try_ends c.before.loop.invariant (search rules)
+returns_2 : tie.Need-returns invariant_loop decreases_loop
+returns_2 c = try_ends c.loop-i.invariant (search rules)
 
 pub standing_spec : {M : Type 1} → statement M
 standing_spec =

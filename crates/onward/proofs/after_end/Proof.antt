@@ -9,4 +9,4 @@ pub after_end_spec : {M : Type 1} → statement M
 unfolding after_end
 after_end_spec =
     tie.close
-    (tie.spec (λ c. search rules) (λ c. search rules) (λ c. rw c.enum_told.given.1) (λ c. rw c.before.level.given.1))
+    (tie.spec (λ c. search rules) (λ c. search rules) (λ c. rw c.in-First.is) (λ c. rw c.in-Second.is))

@@ -7,16 +7,16 @@ use borrow.Author.Rules.{rules}
 use Rattle.onward.proofs.base_after.Statement.{statement}
 use Rattle.onward.proofs.base_after.Tie as tie
 
-set : tie.Need-returns-3
+set : tie.Need-returns
 unfolding base_after
 set c =
     let asked = c.before.before in
-    simp (← c.dword2.ensures, eq-eqb _ _ c.before.if2.false, ← asked.dword.ensures, eq-eqb _ _ asked.before.if1.false, div-one)
+    simp (← c.dword.ensures, eq-eqb _ _ c.if-low-ne1.false, ← asked.dword-low.ensures, eq-eqb _ _ asked.if-row-ne-BASE_ROW.false, div-one)
 
 pub base_after_spec : {M : Type 1} → statement M
 unfolding base_after
 base_after_spec =
     tie.close
-    (tie.spec (λ c. simp (ne_eqb _ _ c.if1.true)) (λ c κs. search rules)
-    (λ c. simp (ne_eqb _ _ c.if2.true, ← c.before.dword.ensures, eq-eqb _ _ c.before.before.if1.false, div-one)) (λ c. search rules)
+    (tie.spec (λ c. simp (ne_eqb _ _ c.if-row-ne-BASE_ROW.true)) (λ c κs. search rules)
+    (λ c. simp (ne_eqb _ _ c.if-low-ne1.true, ← c.dword-low.ensures, eq-eqb _ _ c.if-row-ne-BASE_ROW.false, div-one)) (λ c. search rules)
     (λ c κs. search rules) (λ c. search rules) (λ c. search rules) (λ c. search rules) (λ c. search rules) set)

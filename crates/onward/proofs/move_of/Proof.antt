@@ -9,29 +9,29 @@ use borrow.Author.Rules.{rules}
 use Rattle.onward.proofs.move_of.Statement.{statement}
 use Rattle.onward.proofs.move_of.Tie as tie
 
-on_to_the_next : tie.Need-returns
+on_to_the_next : tie.Need-returns-then-row-ne-BASE_ROW
 unfolding move_from base_after
 on_to_the_next c =
-    let above = c.before.if1.true in
-    let row = c.before.before.before.args.row in
-    rw (ne_eqb row 1 (λ e. omega (arith, above, e)), ne_eqb row 2 (λ e. omega (arith, above, e)), not-true (eqb row 9) c.if2.true)
+    let above = c.if-row-gt-START_ROW.true in
+    let row = c.args.row in
+    rw (ne_eqb row 1 (λ e. omega (arith, above, e)), ne_eqb row 2 (λ e. omega (arith, above, e)), ne_eqb _ _ c.if-row-ne-BASE_ROW.true)
 
-after_start : tie.Need-returns-3
+after_start : tie.Need-returns-then-row-eq-START_ROW
 unfolding move_from
 after_start c =
     let starts = c.before.before.before in
     rw (
-      ne_eqb _ _ starts.before.if3.false,
-      eq-eqb _ _ starts.if4.true,
-      c.level-after-start.ensures,
-      c.before.dword.ensures,
-      c.before.before.target.ensures,
+      ne_eqb _ _ starts.if-row-eq-END_ROW.false,
+      eq-eqb _ _ starts.if-row-eq-START_ROW.true,
+      c.level_after_start.ensures,
+      c.dword.ensures,
+      c.target.ensures,
     )
 
 pub move_of_spec : {M : Type 1} → statement M
 unfolding move_from
 move_of_spec =
     tie.close
-    (tie.spec on_to_the_next (λ c κs. search rules) (λ c. rw (eq-eqb _ _ c.before.if3.true) c.after-end.ensures) (λ c κs. search rules)
+    (tie.spec on_to_the_next (λ c κs. search rules) (λ c. rw (eq-eqb _ _ c.if-row-eq-END_ROW.true) c.after_end.ensures) (λ c κs. search rules)
     (λ c κs. search rules) (λ c κs. search rules) after_start (λ c κs. search rules)
-    (λ c. rw (ne_eqb _ _ c.before.before.if3.false, ne_eqb _ _ c.before.if4.false, c.base-after.ensures)))
+    (λ c. rw (ne_eqb _ _ c.if-row-eq-END_ROW.false, ne_eqb _ _ c.if-row-eq-START_ROW.false, c.base_after.ensures)))

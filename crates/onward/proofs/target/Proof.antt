@@ -13,4 +13,4 @@ target_spec =
     (λ c.
     let made = c.before in
     let high = made.before in
-    rw (c.dword-of.ensures, made.address-of.ensures, high.dword2.ensures, high.before.dword.ensures)))
+    rw (c.dword_of.ensures, made.address_of.ensures, high.dword-high.ensures, high.dword-low.ensures)))

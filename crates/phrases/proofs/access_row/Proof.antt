@@ -7,11 +7,11 @@ use Rattle.phrases.proofs.Trimming.{filled, rows_of, accesses_say, row_says, pas
 use Rattle.phrases.proofs.access_row.Statement.{statement}
 use Rattle.phrases.proofs.access_row.Tie as tie
 
-returns : tie.Need-returns
+returns : tie.Need-returns-then-row-lt-ROWS
 unfolding access_table filled rows_of
 returns c = row_says access_table accesses_say _
 
-returns_2 : tie.Need-returns-2
+returns_2 : tie.Need-returns-else-row-lt-ROWS
 unfolding access_table trimmed
 returns_2 c = past_the_table access_table _ (search rules)
 

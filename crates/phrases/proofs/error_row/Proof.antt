@@ -7,11 +7,11 @@ use Rattle.phrases.proofs.Trimming.{filled, rows_of, errors_say, row_says, past_
 use Rattle.phrases.proofs.error_row.Statement.{statement}
 use Rattle.phrases.proofs.error_row.Tie as tie
 
-returns : tie.Need-returns
+returns : tie.Need-returns-then-error-lt41
 unfolding error_table filled rows_of
 returns c = row_says error_table errors_say _
 
-returns_2 : tie.Need-returns-2
+returns_2 : tie.Need-returns-else-error-lt41
 unfolding error_table trimmed
 returns_2 c = past_the_table error_table _ (search rules)
 

@@ -9,25 +9,25 @@ use Rattle.phrases.proofs.Trimming.{front_counts}
 use Rattle.phrases.proofs.put_row.Statement.{statement}
 use Rattle.phrases.proofs.put_row.Tie as tie
 
-slice_aggregate_put_text : tie.Need-slice-aggregate-put-text
-slice_aggregate_put_text c = sym (front_counts c.before.before.width.ensures)
+slice_aggregate_put_text : tie.Need-slice_bounds-put_text-end
+slice_aggregate_put_text c = sym (front_counts c.width-n.ensures)
 
-put_text_requires : tie.Need-put-text-requires
+put_text_requires : tie.Need-put_text-requires
 put_text_requires c κs =
     let width = c.before.before in
     let start = width.before.before.before in
     let row : 64 ≡ length start.args.t3 = search rules in
-    let front = front_counts width.width.ensures in
-    omega (arith, width.width.ensures.within)
+    let front = front_counts width.width-n.ensures in
+    omega (arith, width.width-n.ensures.within)
 
 returns : tie.Need-returns
 returns c =
     let width = c.before.before.before.before.before in
     let start = width.before.before.before in
-    let found = width.width.ensures in
+    let found = width.width-n.ensures in
     let row : 64 ≡ length start.args.t3 = search rules in
     let front = front_counts found in
-    rw found.words at (at_most {n = 64} (omega (arith, found.within)) c.before.before.put-text.ensures)
+    rw found.words at (at_most {n = 64} (omega (arith, found.within)) c.put_text.ensures)
 
 pub put_row_spec : {M : Type 1} → statement M
 put_row_spec =

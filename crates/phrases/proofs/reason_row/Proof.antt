@@ -7,11 +7,11 @@ use Rattle.phrases.proofs.Trimming.{filled, rows_of, reasons_say, row_says, past
 use Rattle.phrases.proofs.reason_row.Statement.{statement}
 use Rattle.phrases.proofs.reason_row.Tie as tie
 
-returns : tie.Need-returns
+returns : tie.Need-returns-then-i-lt22
 unfolding reason_table filled rows_of
 returns c = row_says reason_table reasons_say _
 
-returns_2 : tie.Need-returns-2
+returns_2 : tie.Need-returns-else-i-lt22
 unfolding reason_table trimmed
 returns_2 c = past_the_table reason_table _ (search rules)
 

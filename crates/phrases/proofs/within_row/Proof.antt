@@ -12,6 +12,6 @@ within_row_spec =
     tie.close
     (tie.spec (λ c. search rules) (λ c. search rules) (λ c. search rules)
     -- the words of each
-    (λ c. rw c.before.before.enum_told.given.1)
-    (λ c. rw c.before.before.enum-told2.given.1)
-    (λ c. rw c.before.before.enum-told3.given.1))
+    (λ c. rw c.in-BatchOnly.is)
+    (λ c. rw c.in-ScratchOnly.is)
+    (λ c. rw c.in-AnyWindow.is))

@@ -7,11 +7,11 @@ use Rattle.phrases.proofs.Trimming.{filled, rows_of, writings_say, row_says, pas
 use Rattle.phrases.proofs.writing_row.Statement.{statement}
 use Rattle.phrases.proofs.writing_row.Tie as tie
 
-returns : tie.Need-returns
+returns : tie.Need-returns-then-i-lt23
 unfolding writing_table filled rows_of
 returns c = row_says writing_table writings_say _
 
-returns_2 : tie.Need-returns-2
+returns_2 : tie.Need-returns-else-i-lt23
 unfolding writing_table trimmed
 returns_2 c = past_the_table writing_table _ (search rules)
 

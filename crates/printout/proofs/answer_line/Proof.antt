@@ -15,9 +15,9 @@ returns c =
     let index = count.before.before.before in
     let window = index.before.before.before in
     let reason = window.before.before.before in
-    let counted = then index.put-labelled3.ensures (then count.put-labelled4.ensures c.put_byte.ensures) in
+    let counted = then index.put_labelled-count.ensures (then count.put_labelled-end.ensures c.put_byte.ensures) in
     whole (omega arith)
-    (simp append_assoc at (then reason.put-labelled.ensures (then window.put-labelled2.ensures counted)))
+    (simp append_assoc at (then reason.put_labelled-window.ensures (then window.put_labelled-index.ensures counted)))
 
 pub answer_line_spec : {M : Type 1} → statement M
 answer_line_spec =

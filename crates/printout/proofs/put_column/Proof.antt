@@ -9,7 +9,7 @@ returns : tie.Need-returns
 returns c =
     let byte = c.before.before in
     let digits = byte.before.before.before.before in
-    then digits.put_digits.ensures byte.put_byte.ensures
+    then digits.put_digits-behind.ensures byte.put_byte.ensures
 
 pub put_column_spec : {M : Type 1} → statement M
 put_column_spec = tie.close (tie.spec (λ c κs. omega arith) (λ c κs. omega arith) (λ c. omega arith) returns)

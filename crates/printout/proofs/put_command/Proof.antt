@@ -14,8 +14,8 @@ returns c =
     let row = length.before.before.before.before in
     let level = row.before.before.before.before in
     let index = level.before.before.before.before in
-    let rest = then level.put-column2.ensures (then row.put-column3.ensures length.put-column4.ensures) in
-    simp append_assoc at (then index.put-column.ensures rest)
+    let rest = then level.put_column-row.ensures (then row.put_column-length.ensures length.put_column.ensures) in
+    simp append_assoc at (then index.put_column-level.ensures rest)
 
 pub put_command_spec : {M : Type 1} → statement M
 put_command_spec =

@@ -6,7 +6,7 @@ use Rattle.printout.proofs.record_line.Statement.{statement}
 use Rattle.printout.proofs.record_line.Tie as tie
 
 returns : tie.Need-returns
-returns c = whole (omega arith) (rw c.before.command.ensures at c.put-command.ensures)
+returns c = whole (omega arith) (rw c.command.ensures at c.put_command.ensures)
 
 pub record_line_spec : {M : Type 1} → statement M
 record_line_spec = tie.close (tie.spec (λ c κs. tt) (λ c κs. omega arith) returns)

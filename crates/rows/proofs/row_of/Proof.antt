@@ -13,7 +13,7 @@ unfolding rows row_from
 row_of_spec =
     tie.close
     (tie.spec (λ c κs. search rules)
-    (λ c. key_0 _ _ c.match.keys1 (lit< tt)) (λ c. key_0 _ _ c.match.keys2 (lit< tt)) (λ c. key_0 _ _ c.match.keys3 (lit< tt))
-    (λ c. key_0 _ _ c.match.keys4 (lit< tt)) (λ c. key_0 _ _ c.match.keys5 (lit< tt)) (λ c. key_0 _ _ c.match.keys6 (lit< tt))
-    (λ c. key_0 _ _ c.match.keys7 (lit< tt))
-    (λ c. c.row-of-type-3.ensures ∙ key_3 _ (search rules) c.before.match.rest))
+    (λ c. key_0 _ _ c.in-0.is (lit< tt)) (λ c. key_0 _ _ c.in-10.is (lit< tt)) (λ c. key_0 _ _ c.in-49.is (lit< tt))
+    (λ c. key_0 _ _ c.in-34.is (lit< tt)) (λ c. key_0 _ _ c.in-32.is (lit< tt)) (λ c. key_0 _ _ c.in-36.is (lit< tt))
+    (λ c. key_0 _ _ c.in-41.is (lit< tt))
+    (λ c. c.row_of_type_3.ensures ∙ key_3 _ (search rules) c.in_default.in_default-own.rest))

@@ -10,7 +10,7 @@ unfolding rows the_row row_from
 row_of_type_3_spec =
     tie.close
     (tie.spec
-    (λ c. rw c.if1.true) (λ c. rw c.match.keys1) (λ c. rw c.match.keys2) (λ c. rw c.match.keys3) (λ c. rw c.match.keys4)
-    (λ c. rw c.match.keys5) (λ c. rw c.match.keys6) (λ c. rw c.match.keys7) (λ c. rw c.match.keys8)
-    (λ c. rw c.match.keys9) (λ c. rw c.match.keys10)
-    (λ c. unknown_3 _ c.before.if1.false c.match.rest))
+    (λ c. rw c.if-key-eq30795.true) (λ c. rw c.in-31232.is) (λ c. rw c.in-26884.is) (λ c. rw c.in-24833.is) (λ c. rw c.in-30728.is)
+    (λ c. rw c.in-30729.is) (λ c. rw c.in-30730.is) (λ c. rw c.in-30755.is) (λ c. rw c.in-30734.is)
+    (λ c. rw c.in-31488.is) (λ c. rw c.in-30756.is)
+    (λ c. unknown_3 _ c.if-key-eq30795.false c.in_default.in_default-own.rest))

@@ -6,9 +6,9 @@ use Rattle.state_values.proofs.ValueRules.{no_nan}
 use Rattle.state_values.proofs.at_most.Statement.{statement}
 use Rattle.state_values.proofs.at_most.Tie as tie
 
-below : tie.Need-returns
+below : tie.Need-returns-then-low-high
 unfolding le
-below c = rw c.if1.true
+below c = rw c.if-low-high.true
 
 pub at_most_spec : {M : Type 1} → statement M
 at_most_spec =

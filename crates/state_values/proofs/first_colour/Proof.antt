@@ -10,34 +10,34 @@ use Rattle.state_values.proofs.ValueRules.{from_two, colour_at}
 use Rattle.state_values.proofs.first_colour.Statement.{statement}
 use Rattle.state_values.proofs.first_colour.Tie as tie
 
-abbrev invariant_loop : tie.invariant_loop
+abbrev invariant_loop : tie.invariant-loop-k
 invariant_loop d k₀ k = (2 ≤ k) × (k ≤ 6) × (first_of (colour_wrong d) 6 ≡ first_from (colour_wrong d) k (6 - k))
 
-abbrev decreases_loop : tie.decreases_loop
+abbrev decreases_loop : tie.decreases-loop-k
 decreases_loop d k₀ k = 6 - k
 
-loop_holds : tie.Need-loop-init invariant_loop decreases_loop
+loop_holds : tie.Need-loop-k-init invariant_loop decreases_loop
 loop_holds c = (search rules, search rules, from_two _)
 
-abbrev turn : tie.After-is-nan invariant_loop decreases_loop → tie.At-loop invariant_loop decreases_loop
+abbrev turn : tie.After-is_nan invariant_loop decreases_loop → tie.At-loop-k invariant_loop decreases_loop
 turn c = c.before.before.before
 
-seen : (c : tie.After-is-nan invariant_loop decreases_loop)
-    → let l = turn c in colour_wrong l.before.before.args.d.now l.loop.k ≡ c.is_nan.result
-seen c = colour_at _ _ (search rules) c.before.dword.ensures c.is_nan.ensures
+seen : (c : tie.After-is_nan invariant_loop decreases_loop)
+    → let l = turn c in colour_wrong l.args.d.now l.loop-k.k ≡ c.is_nan.result
+seen c = colour_at _ _ (search rules) c.dword.ensures c.is_nan.ensures
 
-returns : tie.Need-returns invariant_loop decreases_loop
+returns : tie.Need-returns-then-is_nan invariant_loop decreases_loop
 returns c =
     let l = turn c.before in
-    sym (l.loop.inv.2 ∙ stops_here _ 6 _ (search rules) (seen c.before ∙ c.if1.true))
+    sym (l.loop-k.invariant.2 ∙ stops_here _ 6 _ (search rules) (seen c.before ∙ c.if-is_nan.true))
 
-loop_again : tie.Need-loop-preserved invariant_loop decreases_loop
+loop_again : tie.Need-loop-k-preserved invariant_loop decreases_loop
 loop_again c =
     let l = turn c.before in
-    (search rules, search rules, l.loop.inv.2 ∙ goes_on _ 6 _ (search rules) (seen c.before ∙ c.if1.false))
+    (search rules, search rules, l.loop-k.invariant.2 ∙ goes_on _ 6 _ (search rules) (seen c.before ∙ c.if-is_nan.false))
 
-returns_2 : tie.Need-returns-2 invariant_loop decreases_loop
-returns_2 c = sym (c.before.loop.invariant.2 ∙ comes_to_the_end _ 6 _ (search rules))
+returns_2 : tie.Need-returns invariant_loop decreases_loop
+returns_2 c = sym (c.loop-k.invariant.2 ∙ comes_to_the_end _ 6 _ (search rules))
 
 pub first_colour_spec : {M : Type 1} → statement M
 first_colour_spec =

@@ -8,28 +8,28 @@ use Rattle.state_values.proofs.ValueRules.{low_nan, high_nan, ordered, misordere
 use Rattle.state_values.proofs.first_depth.Statement.{statement}
 use Rattle.state_values.proofs.first_depth.Tie as tie
 
-returns : tie.Need-returns
-returns c = low_nan _ _ (sym c.before.is_nan.ensures ∙ c.if1.true)
+returns : tie.Need-returns-then-is_nan
+returns c = low_nan _ _ (sym c.is_nan.ensures ∙ c.if-is_nan.true)
 
-returns_2 : tie.Need-returns-2
+returns_2 : tie.Need-returns-then-is_nan-2
 returns_2 c =
-    high_nan _ _ (sym c.before.before.before.is_nan.ensures ∙ c.before.before.if1.false)
-    (sym c.before.is-nan2.ensures ∙ c.if2.true)
+    high_nan _ _ (sym c.is_nan.ensures ∙ c.if-is_nan.false)
+    (sym c.is_nan-2.ensures ∙ c.if-is_nan-2.true)
 
-neither : (c : tie.Else2) → let a = c.before.before.before.before.args in
+neither : (c : tie.Else-is_nan-2) → let a = c.args in
     (is_nan a.minimum ≡ false) × (is_nan a.maximum ≡ false)
 neither c =
-    (sym c.before.before.before.is_nan.ensures ∙ c.before.before.if1.false, sym c.before.is-nan2.ensures ∙ c.if2.false)
+    (sym c.is_nan.ensures ∙ c.if-is_nan.false, sym c.is_nan-2.ensures ∙ c.if-is_nan-2.false)
 
-returns_3 : tie.Need-returns-3
+returns_3 : tie.Need-returns-then-at_most
 returns_3 c =
     let n = neither c.before.before in
-    ordered _ _ n.0 n.1 (sym c.before.at_most.ensures ∙ c.if3.true)
+    ordered _ _ n.0 n.1 (sym c.at_most.ensures ∙ c.if-at_most.true)
 
-returns_4 : tie.Need-returns-4
+returns_4 : tie.Need-returns-else-at_most
 returns_4 c =
     let n = neither c.before.before in
-    misordered _ _ n.0 n.1 (sym c.before.at_most.ensures ∙ c.if3.false)
+    misordered _ _ n.0 n.1 (sym c.at_most.ensures ∙ c.if-at_most.false)
 
 pub first_depth_spec : {M : Type 1} → statement M
 first_depth_spec =

@@ -7,19 +7,19 @@ use Rattle.state_values.proofs.ValueRules.{two_depths}
 use Rattle.state_values.proofs.first_value.Statement.{statement}
 use Rattle.state_values.proofs.first_value.Tie as tie
 
-returns : tie.Need-returns
+returns : tie.Need-returns-in-Viewport
 unfolding layout_of
 returns c =
-    rw c.before.before.before.enum_told.given.1
-    (c.first-depth.ensures ∙ two_depths _ c.before.before.dword.ensures c.before.dword2.ensures)
+    rw c.in-Viewport.is
+    (c.first_depth.ensures ∙ two_depths _ c.dword.ensures c.dword-in-Viewport.ensures)
 
-returns_2 : tie.Need-returns-2
+returns_2 : tie.Need-returns-in-ColourCalc
 unfolding layout_of structure_value_wrong
-returns_2 c = rw c.before.enum-told2.given.1 c.first-colour.ensures
+returns_2 c = rw c.in-ColourCalc.is c.first_colour.ensures
 
-returns_3 : tie.Need-returns-3
+returns_3 : tie.Need-returns-in-Blend
 unfolding layout_of structure_value_wrong
-returns_3 c = rw c.before.enum-told3.given.1 c.first_entry.ensures
+returns_3 c = rw c.in-Blend.is c.first_entry.ensures
 
 pub first_value_spec : {M : Type 1} → statement M
 first_value_spec =

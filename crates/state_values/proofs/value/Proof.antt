@@ -7,8 +7,8 @@ use Rattle.state_values.proofs.ValueRules.{no_nan}
 use Rattle.state_values.proofs.value.Statement.{statement}
 use Rattle.state_values.proofs.value.Tie as tie
 
-float_from_bits_result : tie.Need-float-from-bits-result
-float_from_bits_result c = no_nan _ (ap is_nan c.dword.ensures ∙ c.before.before.requires)
+float_from_bits_result : tie.Need-float_from_bits-result
+float_from_bits_result c = no_nan _ (ap is_nan c.dword.ensures ∙ c.requires)
 
 returns : tie.Need-returns
 returns c = ap single c.dword.ensures

@@ -6,35 +6,35 @@ use borrow.Author.Tests.{not-true, not-false}
 use Rattle.state_values.proofs.blend.factors_named.Statement.{statement}
 use Rattle.state_values.proofs.blend.factors_named.Tie as tie
 
-returns : tie.Need-returns
-returns c = simp (sym c.before.named-factor.ensures ∙ not-true _ c.if1.true)
+returns : tie.Need-returns-then-not-named_factor
+returns c = simp (sym c.named_factor.ensures ∙ c.if-not-named_factor.true)
 
-returns_2 : tie.Need-returns-2
+returns_2 : tie.Need-returns-then-not-named_factor-2
 returns_2 c =
     let first = c.before.before in
-    simp (sym first.before.named-factor.ensures ∙ not-false _ first.if1.false, sym c.before.named-factor2.ensures ∙ not-true _ c.if2.true)
+    simp (sym first.named_factor.ensures ∙ first.if-not-named_factor.false, sym c.named_factor-2.ensures ∙ c.if-not-named_factor-2.true)
 
-returns_3 : tie.Need-returns-3
+returns_3 : tie.Need-returns-then-not-named_factor-3
 returns_3 c =
     let second = c.before.before in
     let first = second.before.before in
     simp (
-      sym first.before.named-factor.ensures ∙ not-false _ first.if1.false,
-      sym second.before.named-factor2.ensures ∙ not-false _ second.if2.false,
-      sym c.before.named-factor3.ensures ∙ not-true _ c.if3.true,
+      sym first.named_factor.ensures ∙ first.if-not-named_factor.false,
+      sym second.named_factor-2.ensures ∙ second.if-not-named_factor-2.false,
+      sym c.named_factor-3.ensures ∙ c.if-not-named_factor-3.true,
     )
 
-returns_4 : tie.Need-returns-4
+returns_4 : tie.Need-returns
 returns_4 c =
     let third = c.before in
     let second = third.before.before in
     let first = second.before.before in
     simp (
-      sym first.before.named-factor.ensures ∙ not-false _ first.if1.false,
-      sym second.before.named-factor2.ensures ∙ not-false _ second.if2.false,
-      sym third.before.named-factor3.ensures ∙ not-false _ third.if3.false,
+      sym first.named_factor.ensures ∙ first.if-not-named_factor.false,
+      sym second.named_factor-2.ensures ∙ second.if-not-named_factor-2.false,
+      sym third.named_factor-3.ensures ∙ third.if-not-named_factor-3.false,
     )
-    c.named-factor4.ensures
+    c.named_factor-4.ensures
 
 pub factors_named_spec : {M : Type 1} → statement M
 factors_named_spec =

@@ -10,34 +10,34 @@ use Rattle.state_values.proofs.BlendRules.{from_one, entry_at, entry_passed}
 use Rattle.state_values.proofs.blend.first_entry.Statement.{statement}
 use Rattle.state_values.proofs.blend.first_entry.Tie as tie
 
-abbrev invariant_loop : tie.invariant_loop
+abbrev invariant_loop : tie.invariant-loop-k
 invariant_loop d k₀ k = (k % 2 ≡ 1) × (k ≤ 17) × (first_of (blend_wrong d) 17 ≡ first_from (blend_wrong d) k (17 - k))
 
-abbrev decreases_loop : tie.decreases_loop
+abbrev decreases_loop : tie.decreases-loop-k
 decreases_loop d k₀ k = 17 - k
 
-loop_holds : tie.Need-loop-init invariant_loop decreases_loop
+loop_holds : tie.Need-loop-k-init invariant_loop decreases_loop
 loop_holds c = (search rules, search rules, from_one _)
 
-abbrev turn : tie.After-entry-wrong invariant_loop decreases_loop → tie.At-loop invariant_loop decreases_loop
+abbrev turn : tie.After-entry_wrong invariant_loop decreases_loop → tie.At-loop-k invariant_loop decreases_loop
 turn c = c.before.before.before
 
-seen : (c : tie.After-entry-wrong invariant_loop decreases_loop)
-    → let l = turn c in blend_wrong l.before.before.args.d.now l.loop.k ≡ c.entry-wrong.result
-seen c = entry_at _ _ (turn c).loop.invariant.0 c.before.dword.ensures c.entry-wrong.ensures
+seen : (c : tie.After-entry_wrong invariant_loop decreases_loop)
+    → let l = turn c in blend_wrong l.args.d.now l.loop-k.k ≡ c.entry_wrong.result
+seen c = entry_at _ _ (turn c).loop-k.invariant.0 c.dword.ensures c.entry_wrong.ensures
 
-returns : tie.Need-returns invariant_loop decreases_loop
+returns : tie.Need-returns-then-entry_wrong invariant_loop decreases_loop
 returns c =
     let l = turn c.before in
-    sym (l.loop.inv.2 ∙ stops_here _ 17 _ (search rules) (seen c.before ∙ c.if1.true))
+    sym (l.loop-k.invariant.2 ∙ stops_here _ 17 _ (search rules) (seen c.before ∙ c.if-entry_wrong.true))
 
-loop_again : tie.Need-loop-preserved invariant_loop decreases_loop
+loop_again : tie.Need-loop-k-preserved invariant_loop decreases_loop
 loop_again c =
     let l = turn c.before in
-    (search rules, search rules, l.loop.inv.2 ∙ entry_passed _ _ l.loop.inv.0 (search rules) (seen c.before ∙ c.if1.false))
+    (search rules, search rules, l.loop-k.invariant.2 ∙ entry_passed _ _ l.loop-k.invariant.0 (search rules) (seen c.before ∙ c.if-entry_wrong.false))
 
-returns_2 : tie.Need-returns-2 invariant_loop decreases_loop
-returns_2 c = sym (c.before.loop.invariant.2 ∙ comes_to_the_end _ 17 _ (search rules))
+returns_2 : tie.Need-returns invariant_loop decreases_loop
+returns_2 c = sym (c.loop-k.invariant.2 ∙ comes_to_the_end _ 17 _ (search rules))
 
 pub first_entry_spec : {M : Type 1} → statement M
 first_entry_spec =
