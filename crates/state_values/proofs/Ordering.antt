@@ -145,6 +145,8 @@ in_order_lem true false unbounded unbounded = refl
 in_order_lem true true unbounded unbounded = refl
 
 of_value : (v : Float) (s : Bool) (r : ℕ) → r < infinite → HasValue v s (weight r) (2 ^ 149) → Reads v s r
+of_value nan s r l v = elim v [ ]
+of_value (inf _) s r l v = elim v [ ]
 of_value (fin t m e) s r l v = subst (λ (k : Bool). Reads (fin t m e) k r) v.0 (bounded v.1 l)
 
 -- the sign's bit

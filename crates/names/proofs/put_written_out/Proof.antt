@@ -23,5 +23,4 @@ returns_2 c =
 pub put_written_out_spec : {M : Type 1} → statement M
 put_written_out_spec =
     tie.close
-    (tie.spec (λ c. search rules) (λ c κs. search rules) (λ c. search rules) returns (λ c. search rules) (λ c κs. search rules)
-    (λ c κs. search rules) (λ c. search rules) returns_2)
+    (tie.spec (λ c κs. search rules) (λ c. search rules) returns (λ c κs. search rules) (λ c κs. search rules) (λ c. search rules) returns_2)

@@ -16,7 +16,7 @@ put_text_requires : tie.Need-put_text-requires
 put_text_requires c κs =
     let width = c.before.before in
     let start = width.before.before.before in
-    let row : 64 ≡ length start.args.t3 = search rules in
+    let row : 64 ≡ length start.args.row = search rules in
     let front = front_counts width.width-n.ensures in
     omega (arith, width.width-n.ensures.within)
 
@@ -25,7 +25,7 @@ returns c =
     let width = c.before.before.before.before.before in
     let start = width.before.before.before in
     let found = width.width-n.ensures in
-    let row : 64 ≡ length start.args.t3 = search rules in
+    let row : 64 ≡ length start.args.row = search rules in
     let front = front_counts found in
     rw found.words at (at_most {n = 64} (omega (arith, found.within)) c.put_text.ensures)
 

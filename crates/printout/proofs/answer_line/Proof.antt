@@ -1,7 +1,6 @@
 -- `answer_line` meets its contract: four labelled numbers and a line feed, each behind the last.
 -- Assumes nothing.
 use native.Mathlib.Omega.{arith}
-use mathlib.Core.Path.{refl}
 use mathlib.Core.List.{append_assoc}
 use Rattle.rules.specs.Printout.{answer_line}
 use Rattle.lines.proofs.Putting.{then, whole}
@@ -22,5 +21,5 @@ returns c =
 pub answer_line_spec : {M : Type 1} → statement M
 answer_line_spec =
     tie.close
-    (tie.spec (λ c. refl) (λ c κs. omega arith) (λ c. refl) (λ c κs. omega arith) (λ c. refl)
-    (λ c κs. omega arith) (λ c. refl) (λ c κs. omega arith) (λ c κs. omega arith) returns)
+    (tie.spec (λ c κs. omega arith) (λ c κs. omega arith)
+    (λ c κs. omega arith) (λ c κs. omega arith) (λ c κs. omega arith) returns)
