@@ -10,10 +10,10 @@ unfolding is_missing
 is_missing_spec =
     tie.close
     (tie.spec (λ c. search rules) (λ c. search rules) (λ c. search rules) (λ c. search rules) (λ c. search rules) (λ c. search rules) (λ c. search rules)
-    (λ c. rw c.enum_told.given.1)
-    (λ c. rw c.enum-told2.given.1)
-    (λ c. rw c.enum-told3.given.1)
-    (λ c. rw c.enum-told4.given.1)
-    (λ c. rw c.enum-told5.given.1)
-    (λ c. rw c.enum-told6.given.1)
-    (λ c. rw c.enum-told7.given.1))
+    (λ c. rw c.in-NoSuchFile.is)
+    (λ c. rw c.in-NotAllowed.is)
+    (λ c. rw c.in-Folder.is)
+    (λ c. rw c.in-NameTooLong.is)
+    (λ c. rw c.in-Changed.is)
+    (λ c. rw c.in-NoRegularFile.is)
+    (λ c. rw c.in-Other.is))

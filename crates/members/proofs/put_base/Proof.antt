@@ -9,7 +9,7 @@ returns : tie.Need-returns
 returns c =
     let word = c.before.before in
     let key = word.before.before.before.before in
-    then key.put-text.ensures word.put-base-word.ensures
+    then key.put_text-word.ensures word.put_base_word.ensures
 
 pub put_base_spec : {M : Type 1} → statement M
 put_base_spec =

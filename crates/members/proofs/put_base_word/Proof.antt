@@ -6,17 +6,17 @@ use Rattle.members.specs.Members.{base_text}
 use Rattle.members.proofs.put_base_word.Statement.{statement}
 use Rattle.members.proofs.put_base_word.Tie as tie
 
-returns : tie.Need-returns
+returns : tie.Need-returns-in-StateWindow
 unfolding base_text
 returns c =
     let word = c.before.before in
-    rw word.before.before.before.enum_told.given.1 (at_most (search rules) word.put-text.ensures)
+    rw word.in-StateWindow.is (at_most (search rules) word.put_text.ensures)
 
-returns_2 : tie.Need-returns-2
+returns_2 : tie.Need-returns-in-NoBase
 unfolding base_text
 returns_2 c =
     let word = c.before.before in
-    rw word.before.before.before.enum-told2.given.1 (at_most (search rules) word.put-text2.ensures)
+    rw word.in-NoBase.is (at_most (search rules) word.put_text-in-NoBase.ensures)
 
 pub put_base_word_spec : {M : Type 1} → statement M
 put_base_word_spec =

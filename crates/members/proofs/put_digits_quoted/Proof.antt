@@ -10,7 +10,7 @@ returns c =
     let close = c.before.before in
     let digits = close.before.before.before.before in
     let first = digits.before.before.before.before in
-    then (then first.put_byte.ensures digits.put_hex.ensures) close.put-byte2.ensures
+    then (then first.put_byte-digits.ensures digits.put_hex-close.ensures) close.put_byte.ensures
 
 pub put_digits_quoted_spec : {M : Type 1} → statement M
 put_digits_quoted_spec =

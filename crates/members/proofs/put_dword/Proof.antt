@@ -9,7 +9,7 @@ returns : tie.Need-returns
 returns c =
     let value = c.before.before in
     let key = value.before.before.before.before in
-    then key.put-text.ensures value.put-dword-value.ensures
+    then key.put_text-value.ensures value.put_dword_value.ensures
 
 pub put_dword_spec : {M : Type 1} → statement M
 put_dword_spec =

@@ -6,17 +6,17 @@ use Rattle.lines.proofs.Putting.{at_most}
 use Rattle.members.proofs.put_dword_value.Statement.{statement}
 use Rattle.members.proofs.put_dword_value.Tie as tie
 
-returns : tie.Need-returns
+returns : tie.Need-returns-in-Is
 unfolding dword_text
 returns c =
     let digits = c.before.before in
-    rw digits.before.before.before.n.given.1 digits.put-digits-quoted.ensures
+    rw digits.in-Is.is digits.put_digits_quoted.ensures
 
-returns_2 : tie.Need-returns-2
+returns_2 : tie.Need-returns-in-Null
 unfolding dword_text
 returns_2 c =
     let word = c.before.before in
-    rw word.before.before.before.enum_told.given.1 (at_most (search rules) word.put-text.ensures)
+    rw word.in-Null.is (at_most (search rules) word.put_text.ensures)
 
 pub put_dword_value_spec : {M : Type 1} → statement M
 put_dword_value_spec =

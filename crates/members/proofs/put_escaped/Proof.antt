@@ -9,7 +9,7 @@ returns : tie.Need-returns
 returns c =
     let last = c.before.before in
     let first = last.before.before.before.before in
-    then first.put_byte.ensures last.put-byte2.ensures
+    then first.put_byte-next.ensures last.put_byte.ensures
 
 pub put_escaped_spec : {M : Type 1} → statement M
 put_escaped_spec =

@@ -9,7 +9,7 @@ returns : tie.Need-returns
 returns c =
     let number = c.before.before in
     let key = number.before.before.before.before in
-    then key.put-text.ensures number.put_digits.ensures
+    then key.put_text-number.ensures number.put_digits.ensures
 
 pub put_number_spec : {M : Type 1} → statement M
 put_number_spec =

@@ -9,7 +9,7 @@ returns : tie.Need-returns
 returns c =
     let word = c.before.before in
     let key = word.before.before.before.before in
-    then key.put-text.ensures word.put-outcome-word.ensures
+    then key.put_text-word.ensures word.put_outcome_word.ensures
 
 pub put_outcome_spec : {M : Type 1} → statement M
 put_outcome_spec =

@@ -6,35 +6,35 @@ use Rattle.lines.proofs.Putting.{at_most}
 use Rattle.members.proofs.put_outcome_word.Statement.{statement}
 use Rattle.members.proofs.put_outcome_word.Tie as tie
 
-returns : tie.Need-returns
+returns : tie.Need-returns-in-Accepted
 unfolding outcome_text
 returns c =
     let word = c.before.before in
-    rw word.before.before.before.enum_told.given.1 (at_most (search rules) word.put-text.ensures)
+    rw word.in-Accepted.is (at_most (search rules) word.put_text.ensures)
 
-returns_2 : tie.Need-returns-2
+returns_2 : tie.Need-returns-in-Refused
 unfolding outcome_text
 returns_2 c =
     let word = c.before.before in
-    rw word.before.before.before.enum-told2.given.1 (at_most (search rules) word.put-text2.ensures)
+    rw word.in-Refused.is (at_most (search rules) word.put_text-in-Refused.ensures)
 
-returns_3 : tie.Need-returns-3
+returns_3 : tie.Need-returns-in-Unread
 unfolding outcome_text
 returns_3 c =
     let word = c.before.before in
-    rw word.before.before.before.enum-told3.given.1 (at_most (search rules) word.put-text3.ensures)
+    rw word.in-Unread.is (at_most (search rules) word.put_text-in-Unread.ensures)
 
-returns_4 : tie.Need-returns-4
+returns_4 : tie.Need-returns-in-Missing
 unfolding outcome_text
 returns_4 c =
     let word = c.before.before in
-    rw word.before.before.before.enum-told4.given.1 (at_most (search rules) word.put-text4.ensures)
+    rw word.in-Missing.is (at_most (search rules) word.put_text-in-Missing.ensures)
 
-returns_5 : tie.Need-returns-5
+returns_5 : tie.Need-returns-in-Unlisted
 unfolding outcome_text
 returns_5 c =
     let word = c.before.before in
-    rw word.before.before.before.enum-told5.given.1 (at_most (search rules) word.put-text5.ensures)
+    rw word.in-Unlisted.is (at_most (search rules) word.put_text-in-Unlisted.ensures)
 
 pub put_outcome_word_spec : {M : Type 1} → statement M
 put_outcome_word_spec =

@@ -9,31 +9,31 @@ use Rattle.members.proofs.Quoting.{Quoting, quote_starts, quote_goes_on, quote_e
 use Rattle.members.proofs.put_quoted.Statement.{statement}
 use Rattle.members.proofs.put_quoted.Tie as tie
 
-abbrev invariant_loop : tie.invariant_loop
+abbrev invariant_loop : tie.invariant-loop-i
 invariant_loop line₀ at text next₀ i₀ line next i = Quoting at text line₀ line next i
 
-abbrev decreases_loop : tie.decreases_loop
+abbrev decreases_loop : tie.decreases-loop-i
 decreases_loop line₀ at text next₀ i₀ line next i = length text - i
 
-loop_holds : tie.Need-loop-init invariant_loop decreases_loop
+loop_holds : tie.Need-loop-i-init invariant_loop decreases_loop
 loop_holds c = quote_starts
 
-put_quoted_byte_requires : tie.Need-put-quoted-byte-requires invariant_loop decreases_loop
+put_quoted_byte_requires : tie.Need-put_quoted_byte-next-requires invariant_loop decreases_loop
 put_quoted_byte_requires c κs =
-    let turn = c.before.before.before.loop.invariant.pieces in
+    let turn = c.loop-i.invariant.pieces in
     omega (arith, as_long turn, left_over turn)
 
-loop_again : tie.Need-loop-preserved invariant_loop decreases_loop
+loop_again : tie.Need-loop-i-preserved invariant_loop decreases_loop
 loop_again c =
     let put = c.before.before in
     let turn = put.before.before.before.before in
-    quote_goes_on turn.loop.invariant (search rules) put.put-quoted-byte.ensures
+    quote_goes_on turn.loop-i.invariant (search rules) put.put_quoted_byte-next.ensures
 
-same_length : tie.Need-same-length invariant_loop decreases_loop
-same_length c = as_long c.before.loop.invariant.pieces
+same_length : tie.Need-shape_of-line invariant_loop decreases_loop
+same_length c = as_long c.loop-i.invariant.pieces
 
 returns : tie.Need-returns invariant_loop decreases_loop
-returns c = quote_ends c.before.loop.invariant (search rules)
+returns c = quote_ends c.loop-i.invariant (search rules)
 
 pub put_quoted_spec : {M : Type 1} → statement M
 put_quoted_spec =

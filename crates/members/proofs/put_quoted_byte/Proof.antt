@@ -7,26 +7,26 @@ use Rattle.lines.proofs.Putting.{then, at_most}
 use Rattle.members.proofs.put_quoted_byte.Statement.{statement}
 use Rattle.members.proofs.put_quoted_byte.Tie as tie
 
-returns : tie.Need-returns
+returns : tie.Need-returns-then-byte-lt32
 unfolding quoted_byte
 returns c =
     let digits = c.before.before in
     let text = digits.before.before.before.before in
-    simp (lt-ltb _ _ text.before.before.before.if1.true) (then text.put-text.ensures digits.put_hex.ensures)
+    simp (lt-ltb _ _ text.if-byte-lt32.true) (then text.put_text-digits.ensures digits.put_hex.ensures)
 
-returns_2 : tie.Need-returns-2
+returns_2 : tie.Need-returns-then-byte
 unfolding quoted_byte
 returns_2 c =
     let put = c.before.before in
     let test = put.before.before in
-    simp (le-ltb _ _ test.before.if1.false, test.if2.true) (at_most (search rules) put.put-escaped.ensures)
+    simp (le-ltb _ _ test.if-byte-lt32.false, test.if-byte.true) (at_most (search rules) put.put_escaped.ensures)
 
-returns_3 : tie.Need-returns-3
+returns_3 : tie.Need-returns
 unfolding quoted_byte
 returns_3 c =
     let put = c.before.before in
     let test = put.before.before in
-    simp (le-ltb _ _ test.before.if1.false, test.if2.false) (at_most (search rules) put.put_byte.ensures)
+    simp (le-ltb _ _ test.if-byte-lt32.false, test.if-byte.false) (at_most (search rules) put.put_byte.ensures)
 
 pub put_quoted_byte_spec : {M : Type 1} → statement M
 put_quoted_byte_spec =

@@ -9,7 +9,7 @@ returns : tie.Need-returns
 returns c =
     let string = c.before.before in
     let key = string.before.before.before.before in
-    then key.put-text.ensures string.put-quoted.ensures
+    then key.put_text-string.ensures string.put_quoted.ensures
 
 pub put_string_spec : {M : Type 1} → statement M
 put_string_spec =

@@ -21,49 +21,49 @@ use Rattle.search.proofs.SearchLaws.{in_group_lem, next_group, groupless, within
 use Rattle.search.proofs.first_wrong.Statement.{statement}
 use Rattle.search.proofs.first_wrong.Tie as tie
 
-abbrev invariant_loop : tie.invariant_loop
+abbrev invariant_loop : tie.invariant-loop-j
 invariant_loop what w row command masks formats len own size first j₀ j =
     (j ≤ size) × (first + j ≤ len) × Left (wrong what w row command) len (first + j)
 
-abbrev decreases_loop : tie.decreases_loop
+abbrev decreases_loop : tie.decreases-loop-j
 decreases_loop what w row command masks formats len own size first j₀ j = size - j
 
-abbrev invariant_groups : tie.invariant_groups
+abbrev invariant_groups : tie.invariant-groups
 invariant_groups what w row command masks formats len own size first₀ first =
     (1 ≤ first) × (first ≤ len) × ((first - 1) % size ≡ 0) × Left (wrong what w row command) len first
 
-abbrev decreases_groups : tie.decreases_groups
+abbrev decreases_groups : tie.decreases-groups
 decreases_groups what w row command masks formats len own size first₀ first = len - first
 
 abbrev start : tie.At-groups invariant_loop decreases_loop invariant_groups decreases_groups → tie.Start invariant_loop decreases_loop invariant_groups decreases_groups
 start c = c.before.before.before.before.before.before
 
-abbrev entry : tie.After-wrong-at invariant_loop decreases_loop invariant_groups decreases_groups → tie.Start invariant_loop decreases_loop invariant_groups decreases_groups
+abbrev entry : tie.After-wrong_at invariant_loop decreases_loop invariant_groups decreases_groups → tie.Start invariant_loop decreases_loop invariant_groups decreases_groups
 entry c = c.before.before.before
 
-abbrev group : tie.At-loop invariant_loop decreases_loop invariant_groups decreases_groups → tie.At-groups invariant_loop decreases_loop invariant_groups decreases_groups
+abbrev group : tie.At-loop-j invariant_loop decreases_loop invariant_groups decreases_groups → tie.At-groups invariant_loop decreases_loop invariant_groups decreases_groups
 group c = c.before.before
 
-abbrev sized : tie.At-groups invariant_loop decreases_loop invariant_groups decreases_groups → tie.After-group-size invariant_loop decreases_loop invariant_groups decreases_groups
+abbrev sized : tie.At-groups invariant_loop decreases_loop invariant_groups decreases_groups → tie.After-group_size-size invariant_loop decreases_loop invariant_groups decreases_groups
 sized c = c.before
 
-abbrev dword : tie.After-wrong-at2 invariant_loop decreases_loop invariant_groups decreases_groups → tie.At-loop invariant_loop decreases_loop invariant_groups decreases_groups
+abbrev dword : tie.After-wrong_at-in-loop-j invariant_loop decreases_loop invariant_groups decreases_groups → tie.At-loop-j invariant_loop decreases_loop invariant_groups decreases_groups
 dword c = c.before.before.before
 
 -- what the call at the header, and the call at a dword of a group, say of the search's test
 abbrev test : tie.Start invariant_loop decreases_loop invariant_groups decreases_groups → ℕ → Bool
 test s = wrong s.args.what s.args.w s.args.row s.args.command.now
 
-header_seen : (c : tie.After-wrong-at invariant_loop decreases_loop invariant_groups decreases_groups) → test (entry c) 0 ≡ c.wrong-at.result
-header_seen c = wrong_at_spot _ _ _ (entry c).args.command.now 0 0 (header_spot _) ∙ sym c.wrong-at.ensures
+header_seen : (c : tie.After-wrong_at invariant_loop decreases_loop invariant_groups decreases_groups) → test (entry c) 0 ≡ c.wrong_at.result
+header_seen c = wrong_at_spot _ _ _ (entry c).args.command.now 0 0 (header_spot _) ∙ sym c.wrong_at.ensures
 
-seen : (c : tie.After-wrong-at2 invariant_loop decreases_loop invariant_groups decreases_groups)
-    → test (start (group (dword c))) ((group (dword c)).groups.first + (dword c).loop.j) ≡ c.wrong-at2.result
+seen : (c : tie.After-wrong_at-in-loop-j invariant_loop decreases_loop invariant_groups decreases_groups)
+    → test (start (group (dword c))) ((group (dword c)).groups.first + (dword c).loop-j.j) ≡ c.wrong_at-in-loop-j.result
 seen c =
     let g = group (dword c) in
     wrong_at_spot _ _ _ (start g).args.command.now _ _
-    (rw (← (sized g).group-size.ensures) (in_group_lem _ _ _ g.groups.inv.0 g.groups.inv.2 c.before.before.loop-test.true))
-    ∙ sym c.wrong-at2.ensures
+    (rw (← (sized g).group_size-size.ensures) (in_group_lem _ _ _ g.groups.inv.0 g.groups.inv.2 c.loop-j-test.true))
+    ∙ sym c.wrong_at-in-loop-j.ensures
 
 -- the masks of the row are lent
 own_masks : (s : tie.Start invariant_loop decreases_loop invariant_groups decreases_groups)
@@ -71,57 +71,57 @@ own_masks : (s : tie.Start invariant_loop decreases_loop invariant_groups decrea
 own_masks s = ap (λ (l : List (List ℕ)). get_or l s.args.row []) s.requires.2
 
 -- a group that is reached has dwords
-positive : (c : tie.At-loop invariant_loop decreases_loop invariant_groups decreases_groups) → 0 < (sized (group c)).group-size.result
+positive : (c : tie.At-loop-j invariant_loop decreases_loop invariant_groups decreases_groups) → 0 < (sized (group c)).group-size.result
 positive c =
     let s = start (group c) in
     some_size _ (length s.args.command.now) (λ e. groupless _ _ s.pre.1 (sym (sized (group c)).group-size.ensures ∙ e)) (omega arith)
 
 -- a dword that is reached is one of the command's
-inside : (c : tie.Else3 invariant_loop decreases_loop invariant_groups decreases_groups)
-    → (group c.before.before).groups.first + c.before.before.loop.j < length (start (group c.before.before)).args.command.now
+inside : (c : tie.Else-row-len invariant_loop decreases_loop invariant_groups decreases_groups)
+    → (group c.before.before).groups.first + c.loop-j.j < length (start (group c.before.before)).args.command.now
 inside c =
     let g = group c.before.before in
-    let size = (sized g).group-size.ensures in
-    within _ _ _ _ (start g).pre.1 g.groups.inv.0 (rw (← size) g.groups.inv.2) (omega arith) (omega (arith, size)) c.if3.false
+    let size = (sized g).group_size-size.ensures in
+    within _ _ _ _ (start g).pre.1 g.groups.invariant.0 (rw (← size) g.groups.invariant.2) (omega arith) (omega (arith, size)) c.if-row-len.false
 
-header_requires : tie.Need-wrong-at-requires invariant_loop decreases_loop invariant_groups decreases_groups
+header_requires : tie.Need-wrong_at-requires invariant_loop decreases_loop invariant_groups decreases_groups
 header_requires c κs =
     let s = c.before.before in
     (s.requires.1.header, search rules, s.requires.0, own_masks s, s.requires.3)
 
 groups_holds : tie.Need-groups-init invariant_loop decreases_loop invariant_groups decreases_groups
 groups_holds c =
-    (search rules, search rules, zero-mod _, left_more (left_all _ _) (entry c.before.before).pre.1.header (header_seen c.before.before ∙ c.before.if1.false))
+    (search rules, search rules, zero-mod _, left_more (left_all _ _) (entry c.before.before).pre.1.header (header_seen c.before.before ∙ c.if-wrong_at.false))
 
-dword_requires : tie.Need-wrong-at-requires-2 invariant_loop decreases_loop invariant_groups decreases_groups
+dword_requires : tie.Need-wrong_at-requires-in-loop-j invariant_loop decreases_loop invariant_groups decreases_groups
 dword_requires c κs =
     let g = group c.before.before in
     let s = start g in
-    (inside c, omega (arith, (sized g).group-size.ensures), s.pre.0, own_masks s, s.pre.3)
+    (inside c, omega (arith, (sized g).group_size-size.ensures), s.pre.0, own_masks s, s.pre.3)
 
-loop_again : tie.Need-loop-preserved invariant_loop decreases_loop invariant_groups decreases_groups
+loop_again : tie.Need-loop-j-preserved invariant_loop decreases_loop invariant_groups decreases_groups
 loop_again c =
     let here = inside c.before.before in
-    let passed = left_more (dword c.before).loop.inv.2 here (seen c.before ∙ c.if4.false) in
+    let passed = left_more (dword c.before).loop.inv.2 here (seen c.before ∙ c.if-wrong_at-2.false) in
     (omega arith, omega (arith, here), left_at (add_assoc _ _ 1) passed)
 
 groups_again : tie.Need-groups-preserved invariant_loop decreases_loop invariant_groups decreases_groups
 groups_again c =
     let last = c.before in
     let g = group last in
-    let e : last.loop.j ≡ (sized g).group-size.result = omega arith in (
+    let e : last.loop-j.j ≡ (sized g).group_size-size.result = omega arith in (
       omega arith,
       omega arith,
-      next_group _ _ 0 g.groups.inv.0 g.groups.inv.2,
-      left_at (ap (λ (j : ℕ). g.groups.first + j) e) last.loop.invariant.2,
+      next_group _ _ 0 g.groups.invariant.0 g.groups.invariant.2,
+      left_at (ap (λ (j : ℕ). g.groups.first + j) e) last.loop-j.invariant.2,
     )
 
 -- a store ends inside its group where the command does
-past_end : tie.Need-returns-3 invariant_loop decreases_loop invariant_groups decreases_groups
-past_end c = left_none c.before.before.loop.invariant.2 (leb-true _ _ (and_right (eqb (start (group c.before.before)).args.row store_row) _ c.if3.true))
+past_end : tie.Need-returns-then-row-len invariant_loop decreases_loop invariant_groups decreases_groups
+past_end c = left_none c.loop-j.invariant.2 (leb-true _ _ (and_right (eqb (start (group c.before.before)).args.row store_row) _ c.if-row-len.true))
 
-found : tie.Need-returns-4 invariant_loop decreases_loop invariant_groups decreases_groups
-found c = left_found (dword c.before).loop.inv.2 (inside c.before.before) (seen c.before ∙ c.if4.true)
+found : tie.Need-returns-then-wrong_at-2 invariant_loop decreases_loop invariant_groups decreases_groups
+found c = left_found (dword c.before).loop.inv.2 (inside c.before.before) (seen c.before ∙ c.if-wrong_at-2.true)
 
 pub first_wrong_spec : {M : Type 1} → statement M
 first_wrong_spec =
@@ -129,10 +129,10 @@ first_wrong_spec =
     (tie.spec invariant_loop decreases_loop invariant_groups decreases_groups
     -- the header
     (λ c. search rules) (λ c. search rules) header_requires
-    (λ c. left_found (left_all _ _) (entry c.before).pre.1.header (header_seen c.before ∙ c.if1.true)) (λ c κs. search rules)
+    (λ c. left_found (left_all _ _) (entry c.before).pre.1.header (header_seen c.before ∙ c.if-wrong_at.true)) (λ c κs. search rules)
     -- the groups, and the dwords of each
-    groups_holds (λ c. (search rules, omega arith, left_at (sym (add-zero _)) c.before.groups.invariant.3)) (λ c. search rules) (λ c. search rules)
+    groups_holds (λ c. (search rules, omega arith, left_at (sym (add-zero _)) c.groups.invariant.3)) (λ c. search rules) (λ c. search rules)
     dword_requires (λ c. search rules) (λ c. search rules) loop_again
     (λ c. search rules) (λ c. let s = positive c.before in omega arith) groups_again
     -- and the three ways out of them
-    (λ c. left_none c.before.groups.invariant.3 c.if2.true) past_end found)
+    (λ c. left_none c.groups.invariant.3 c.if-len-first.true) past_end found)

@@ -10,29 +10,29 @@ use Rattle.structures.proofs.Which.{colour_is, blend_is, neither_is}
 use Rattle.structures.proofs.first_bit.Statement.{statement}
 use Rattle.structures.proofs.first_bit.Tie as tie
 
-blend : tie.Need-returns
+blend : tie.Need-returns-then-is_blend
 unfolding layout_of structure_mask structure_bit_wrong outside
 blend c =
     let test = c.before.before.before in
-    rw (blend_is test.before.before.before.args.kind (sym test.before.is-blend.ensures ∙ test.if1.true), ← c.before.dwords-of.ensures) c.first-outside.ensures
+    rw (blend_is test.args.kind (sym test.is_blend.ensures ∙ test.if-is_blend.true), ← c.dwords_of.ensures) c.first_outside.ensures
 
-colour : tie.Need-returns-2
+colour : tie.Need-returns-then-is_colour
 unfolding layout_of
 colour c =
     let test = c.before.before.before in
-    rw (colour_is test.before.before.before.before.before.args.kind (sym test.before.is-colour.ensures ∙ test.if2.true), ← c.before.dwords-of2.ensures)
-    (c.first-outside2.ensures ∙ one_each ColourCalc 0xFFFF8001 0xFFFFFFFF refl refl _ _)
+    rw (colour_is test.args.kind (sym test.is_colour.ensures ∙ test.if-is_colour.true), ← c.dwords_of-then-is_colour.ensures)
+    (c.first_outside-then-is_colour.ensures ∙ one_each ColourCalc 0xFFFF8001 0xFFFFFFFF refl refl _ _)
 
-viewport : tie.Need-returns-3
+viewport : tie.Need-returns
 unfolding layout_of
 viewport c =
     let test = c.before.before.before in
     let first = test.before.before in
     rw (
-      neither_is first.before.before.before.args.kind (sym test.before.is-colour.ensures ∙ test.if2.false) (sym first.before.is-blend.ensures ∙ first.if1.false),
-      ← c.before.dwords-of3.ensures,
+      neither_is first.args.kind (sym test.is_colour.ensures ∙ test.if-is_colour.false) (sym first.is_blend.ensures ∙ first.if-is_blend.false),
+      ← c.dwords_of-2.ensures,
     )
-    (c.first-outside3.ensures ∙ one_each Viewport 0xFFFFFFFF 0xFFFFFFFF refl refl _ _)
+    (c.first_outside-2.ensures ∙ one_each Viewport 0xFFFFFFFF 0xFFFFFFFF refl refl _ _)
 
 pub first_bit_spec : {M : Type 1} → statement M
 first_bit_spec =

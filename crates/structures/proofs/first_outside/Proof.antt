@@ -11,35 +11,35 @@ use Rattle.structures.proofs.BitRules.{bit_at}
 use Rattle.structures.proofs.first_outside.Statement.{statement}
 use Rattle.structures.proofs.first_outside.Tie as tie
 
-abbrev invariant_loop : tie.invariant_loop
+abbrev invariant_loop : tie.invariant-loop-k
 invariant_loop masks size d n k₀ k = (k ≤ n) × (first_of (outside masks size d) n ≡ first_from (outside masks size d) k (n - k))
 
-abbrev decreases_loop : tie.decreases_loop
+abbrev decreases_loop : tie.decreases-loop-k
 decreases_loop masks size d n k₀ k = n - k
 
-loop_holds : tie.Need-loop-init invariant_loop decreases_loop
+loop_holds : tie.Need-loop-k-init invariant_loop decreases_loop
 loop_holds c = (search rules, from_the_start _ _)
 
-abbrev turn : tie.After-allowed invariant_loop decreases_loop → tie.At-loop invariant_loop decreases_loop
+abbrev turn : tie.After-allowed invariant_loop decreases_loop → tie.At-loop-k invariant_loop decreases_loop
 turn c = c.before.before.before.before.before
 
 seen : (c : tie.After-allowed invariant_loop decreases_loop)
     → let l = turn c in
-    outside l.before.before.args.masks.now l.before.before.args.size l.before.before.args.d.now l.loop.k ≡ not c.allowed.result
-seen c = bit_at _ _ _ _ c.before.before.before.dword.ensures c.before.before.in_group_lem.ensures.0 c.allowed.ensures
+    outside l.args.masks.now l.args.size l.args.d.now l.loop-k.k ≡ not c.allowed.result
+seen c = bit_at _ _ _ _ c.dword.ensures c.in_group.ensures.0 c.allowed.ensures
 
-returns : tie.Need-returns invariant_loop decreases_loop
+returns : tie.Need-returns-then-not-allowed invariant_loop decreases_loop
 returns c =
     let l = turn c.before in
-    sym (l.loop.inv.1 ∙ stops_here _ _ _ (search rules) (seen c.before ∙ c.if1.true))
+    sym (l.loop-k.invariant.1 ∙ stops_here _ _ _ (search rules) (seen c.before ∙ c.if-not-allowed.true))
 
-loop_again : tie.Need-loop-preserved invariant_loop decreases_loop
+loop_again : tie.Need-loop-k-preserved invariant_loop decreases_loop
 loop_again c =
     let l = turn c.before in
-    (search rules, l.loop.inv.1 ∙ goes_on _ _ _ (search rules) (seen c.before ∙ c.if1.false))
+    (search rules, l.loop-k.invariant.1 ∙ goes_on _ _ _ (search rules) (seen c.before ∙ c.if-not-allowed.false))
 
-returns_2 : tie.Need-returns-2 invariant_loop decreases_loop
-returns_2 c = sym (c.before.loop.invariant.1 ∙ comes_to_the_end _ _ _ (search rules))
+returns_2 : tie.Need-returns invariant_loop decreases_loop
+returns_2 c = sym (c.loop-k.invariant.1 ∙ comes_to_the_end _ _ _ (search rules))
 
 pub first_outside_spec : {M : Type 1} → statement M
 first_outside_spec =

@@ -9,29 +9,29 @@ use Rattle.structures.proofs.Reading.{ends_below, reading_is}
 use Rattle.structures.proofs.read.Statement.{statement}
 use Rattle.structures.proofs.read.Tie as tie
 
-part_of_requires : tie.Need-part-of-requires
-part_of_requires c κs = within_its_window _ _ _ _ _ _ _ c.held_in.ensures
+part_of_requires : tie.Need-part_of-d-requires
+part_of_requires c κs = within_its_window _ _ _ _ _ _ _ c.held_in-held.ensures
 
 judged_requires : tie.Need-judged-requires
 judged_requires c κs =
-    ends_below _ _ _ _ _ _ _ c.before.before.dwords-of.ensures c.before.held_in.ensures (search rules) (search rules) (search rules)
+    ends_below _ _ _ _ _ _ _ c.dwords_of-n.ensures c.held_in-held.ensures (search rules) (search rules) (search rules)
 
 values_requires : tie.Need-values-requires
-values_requires c κs = values_well _ (sym c.before.before.judged.ensures ∙ c.enum_told.given.1)
+values_requires c κs = values_well _ (sym c.judged.ensures ∙ c.in-Pass.is)
 
-returns : tie.Need-returns
+returns : tie.Need-returns-in-Pass
 returns c =
-    let j = c.before.before.before in
+    let j = c.before.before in
     rw (c.values.ensures
-    ∙ reading_is _ _ _ _ _ _ _ j.before.before.before.dwords-of.ensures j.before.before.held_in.ensures
-    j.before.part_of.ensures (sym c.before.enum_told.given.1 ∙ j.judged.ensures))
+    ∙ reading_is _ _ _ _ _ _ _ j.dwords_of-n.ensures j.held_in-held.ensures
+    j.part_of-d.ensures (sym c.in-Pass.is ∙ j.judged.ensures))
     (structure_read _ _ _ _ _ _ _)
 
-returns_2 : tie.Need-returns-2
+returns_2 : tie.Need-returns-in-Fails
 returns_2 c =
-    let j = c.before.before.before in
-    rw (reading_is _ _ _ _ _ _ _ j.before.before.before.dwords-of.ensures j.before.before.held_in.ensures
-    j.before.part_of.ensures (sym c.before.f.given.1 ∙ j.judged.ensures))
+    let j = c.before in
+    rw (reading_is _ _ _ _ _ _ _ j.dwords_of-n.ensures j.held_in-held.ensures
+    j.part_of-d.ensures (sym c.in-Fails.is ∙ j.judged.ensures))
     (structure_read _ _ _ _ _ _ _)
 
 pub read_spec : {M : Type 1} → statement M

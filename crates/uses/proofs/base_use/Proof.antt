@@ -10,6 +10,6 @@ use Rattle.uses.proofs.base_use.Tie as tie
 pub base_use_spec : {M : Type 1} → statement M
 base_use_spec =
     tie.close
-    (tie.spec (λ c κs. search rules) (λ c. simp (sym c.before.is_base.ensures ∙ not-true _ c.if1.true))
-    (λ c. simp (sym c.before.before.is_base.ensures ∙ not-false _ c.before.if1.false, eq-eqb _ 1 c.if2.true, div-one))
-    (λ c. simp (sym c.before.before.is_base.ensures ∙ not-false _ c.before.if1.false, ne_eqb _ 1 c.if2.false, div-one)))
+    (tie.spec (λ c κs. search rules) (λ c. simp (sym c.is_base.ensures ∙ c.if-not-is_base.true))
+    (λ c. simp (sym c.is_base.ensures ∙ c.if-not-is_base.false, eq-eqb _ 1 c.if-word-eq1.true, div-one))
+    (λ c. simp (sym c.is_base.ensures ∙ c.if-not-is_base.false, ne_eqb _ 1 c.if-word-eq1.false, div-one)))

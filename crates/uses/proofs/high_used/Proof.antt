@@ -10,7 +10,7 @@ returns : tie.Need-returns
 unfolding used_high_of
 returns c =
     let before-j = c.before in
-    c.low-used.ensures ∙ rw (before-j.before3.ensures, before-j.before.before2.ensures)
+    c.low_used.ensures ∙ rw (before-j.before-3.ensures, before-j.before-2.ensures)
 
 pub high_used_spec : {M : Type 1} → statement M
 high_used_spec = tie.close (tie.spec (λ c κs. search rules) (λ c κs. search rules) (λ c κs. search rules) returns)

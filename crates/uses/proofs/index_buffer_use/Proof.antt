@@ -8,5 +8,5 @@ use Rattle.uses.proofs.index_buffer_use.Tie as tie
 pub index_buffer_use_spec : {M : Type 1} → statement M
 index_buffer_use_spec =
     tie.close
-    (tie.spec (λ c. simp (ne_eqb _ _ c.if1.true)) (λ c. search rules) (λ c κs. search rules) (λ c κs. search rules)
-    (λ c. simp (← c.sized-use.ensures, ← c.before.dword.ensures, eq-eqb _ _ c.before.before.if1.false)))
+    (tie.spec (λ c. simp (ne_eqb _ _ c.if-j-ne2.true)) (λ c. search rules) (λ c κs. search rules) (λ c κs. search rules)
+    (λ c. simp (← c.sized_use.ensures, ← c.dword.ensures, eq-eqb _ _ c.if-j-ne2.false)))

@@ -9,4 +9,4 @@ use Rattle.uses.proofs.is_base.Tie as tie
 pub is_base_spec : {M : Type 1} → statement M
 is_base_spec =
     tie.close
-    (tie.spec (λ c. sym (listed (1 ∷ 4 ∷ 6 ∷ 8 ∷ 10 ∷ []) _ c.match.keys1)) (λ c. sym (unlisted (1 ∷ 4 ∷ 6 ∷ 8 ∷ 10 ∷ []) _ c.match.rest.1)))
+    (tie.spec (λ c. sym (listed (1 ∷ 4 ∷ 6 ∷ 8 ∷ 10 ∷ []) _ c.in-1.is)) (λ c. sym (unlisted (1 ∷ 4 ∷ 6 ∷ 8 ∷ 10 ∷ []) _ c.in_default.in_default-own.rest.1)))

@@ -8,6 +8,6 @@ use Rattle.uses.proofs.pipe_use.Tie as tie
 pub pipe_use_spec : {M : Type 1} → statement M
 pipe_use_spec =
     tie.close
-    (tie.spec (λ c. simp (ne_eqb _ _ c.if1.true)) (λ c κs. search rules)
-    (λ c. simp (eq-eqb _ _ c.if2.true, ← c.before.dword.ensures, eq-eqb _ _ c.before.before.if1.false))
-    (λ c. simp (ne_eqb _ _ c.if2.false, ← c.before.dword.ensures, eq-eqb _ _ c.before.before.if1.false)))
+    (tie.spec (λ c. simp (ne_eqb _ _ c.if-j-ne2.true)) (λ c κs. search rules)
+    (λ c. simp (eq-eqb _ _ c.if-dword-eq0.true, ← c.dword.ensures, eq-eqb _ _ c.if-j-ne2.false))
+    (λ c. simp (ne_eqb _ _ c.if-dword-eq0.false, ← c.dword.ensures, eq-eqb _ _ c.if-j-ne2.false)))

@@ -5,4 +5,4 @@ use Rattle.uses.proofs.sized_use.Statement.{statement}
 use Rattle.uses.proofs.sized_use.Tie as tie
 
 pub sized_use_spec : {M : Type 1} → statement M
-sized_use_spec = tie.close (tie.spec (λ c. simp (eq-eqb _ _ c.if1.true)) (λ c. simp (ne_eqb _ _ c.if1.false)))
+sized_use_spec = tie.close (tie.spec (λ c. simp (eq-eqb _ _ c.if-size-eq0.true)) (λ c. simp (ne_eqb _ _ c.if-size-eq0.false)))

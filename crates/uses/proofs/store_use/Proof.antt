@@ -8,6 +8,6 @@ use Rattle.uses.proofs.store_use.Tie as tie
 pub store_use_spec : {M : Type 1} → statement M
 store_use_spec =
     tie.close
-    (tie.spec (λ c. simp (ne_eqb _ _ c.if1.true)) (λ c κs. search rules)
-    (λ c. simp (eq-eqb _ _ c.if2.true, ← c.before.dword.ensures, eq-eqb _ _ c.before.before.if1.false))
-    (λ c. simp (ne_eqb _ _ c.if2.false, ← c.before.dword.ensures, eq-eqb _ _ c.before.before.if1.false)))
+    (tie.spec (λ c. simp (ne_eqb _ _ c.if-j-ne1.true)) (λ c κs. search rules)
+    (λ c. simp (eq-eqb _ _ c.if-dword-eq1.true, ← c.dword.ensures, eq-eqb _ _ c.if-j-ne1.false))
+    (λ c. simp (ne_eqb _ _ c.if-dword-eq1.false, ← c.dword.ensures, eq-eqb _ _ c.if-j-ne1.false)))

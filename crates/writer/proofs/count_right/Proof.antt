@@ -14,35 +14,35 @@ use Rattle.writer.proofs.WriterLaws.{field_told, switch_told}
 use Rattle.writer.proofs.count_right.Statement.{statement}
 use Rattle.writer.proofs.count_right.Tie as tie
 
-none : tie.Need-returns
+none : tie.Need-returns-then-n-eq0
 unfolding length_of
 none c =
     let asked = c.before in
-    let a = asked.before.args in
-    ap (λ (m : ℕ). eqb m 1) asked.length-of.ensures
+    let a = asked.args in
+    ap (λ (m : ℕ). eqb m 1) asked.length_of-bare.ensures
     ∙ none_counted (the_row a.row).total (group_size a.row) a.free
-    ∙ ap (count_right (the_row a.row).total (group_size a.row) a.free) (sym c.if1.true)
+    ∙ ap (count_right (the_row a.row).total (group_size a.row) a.free) (sym c.if-n-eq0.true)
 
-bare : tie.Need-returns-2
+bare : tie.Need-returns-then-bare
 unfolding length_of
 bare c =
     let asked = c.before.before in
-    let a = asked.before.args in
-    sym (bare_counted (the_row a.row).total (group_size a.row) a.free a.n (sym asked.length-of.ensures ∙ eqb-true _ 1 c.if2.true) (search rules))
+    let a = asked.args in
+    sym (bare_counted (the_row a.row).total (group_size a.row) a.free a.n (sym asked.length_of-bare.ensures ∙ eqb-true _ 1 c.if-bare.true) (search rules))
 
-many : tie.Need-returns-3
+many : tie.Need-returns-then-n-gt256
 many c = let s = c.before.before.before.before in sym (many_counted s.args.row s.args.free s.args.n s.requires (search rules))
 
-by_field : tie.Need-returns-4
+by_field : tie.Need-returns
 unfolding length_of
 by_field c =
     let with_field = c.before.before in
     let asked = with_field.before.before in
-    let a = asked.before.args in
+    let a = asked.args in
     let header = a.free / 0x200000 % 2 * 0x200000 + (a.n - 1) in
-    c.length-right.ensures
-    ∙ field_counted a.row a.free a.n header asked.before.requires
-    (λ z. eqb-false _ 1 with_field.if2.false (asked.length-of.ensures ∙ z)) (field_told _ a.n (search rules) (search rules))
+    c.length_right.ensures
+    ∙ field_counted a.row a.free a.n header asked.requires
+    (λ z. eqb-false _ 1 with_field.if-bare.false (asked.length_of-bare.ensures ∙ z)) (field_told _ a.n (search rules) (search rules))
     (switch_told _ a.n (mod-lt _ (lit< tt)) (search rules))
 
 pub count_right_spec : {M : Type 1} → statement M

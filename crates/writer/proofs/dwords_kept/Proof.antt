@@ -23,10 +23,10 @@ held c =
     let a = (start c).args in
     ap (take (1 + length a.dwords.now)) c.put.ensures ∙ stands_first (a.header ∷ a.dwords.now) _ (1 + length a.dwords.now) (omega arith)
 
-abbrev put_first : tie.After-command3 → tie.After-put
+abbrev put_first : tie.After-command-3-1 → tie.After-put
 put_first c = c.before.before.before
 
-long : (c : tie.After-command3) → let a = (start (put_first c)).args in
+long : (c : tie.After-command-3-1) → let a = (start (put_first c)).args in
     1 + length a.dwords.now ≡ length (take (1 + length a.dwords.now) (put_first c).put.new.1.1.0)
 long c = sym (ap length (held (put_first c)) ∙ omega arith)
 
@@ -34,18 +34,18 @@ returns : tie.Need-returns
 returns c =
     let put = put_first c.before.before in
     let a = (start put).args in
-    c.bits_kept_lem.ensures
+    c.bits_kept.ensures
     ∙ ap (λ (l : List ℕ). not (some_from (bit_wrong a.row l) 1 (length l - 1))) (held put)
     ∙ ap (λ (n : ℕ). not (some_from (bit_wrong a.row (a.header ∷ a.dwords.now)) 1 n)) (omega arith)
 
-few : (c : tie.After-bits-kept-arg) → let a = (start (put_first c.before)).args in
+few : (c : tie.After-bits_kept-arg-1) → let a = (start (put_first c.before)).args in
     length a.dwords.now ≡ 0 → length (take (1 + length a.dwords.now) (put_first c.before).put.new.1.1.0) ≤ 1
 few c e = omega (arith, long c.before)
 
-bits_kept_requires : tie.Need-bits-kept-requires
+bits_kept_requires : tie.Need-bits_kept-requires
 bits_kept_requires c κs =
     let s = start (put_first c.before) in
-    (s.pre.0, (λ z. few c (s.pre.2 z)), ap (λ (t : List (List ℕ)). get_or t s.args.row []) c.before.before.mask-table.ensures)
+    (s.pre.0, (λ z. few c (s.pre.2 z)), ap (λ (t : List (List ℕ)). get_or t s.args.row []) c.mask_table-masks.ensures)
 
 pub dwords_kept_spec : {M : Type 1} → statement M
 dwords_kept_spec =

@@ -23,20 +23,20 @@ small s = let a = s.args in rw (sum s) (made_small a.row a.free a.n s.requires.0
 few : (s : tie.Start) → s.args.n < 2 ^ 32
 few s = let a = s.args in omega (arith, counts_small a.row a.free a.n s.requires.0 s.requires.1)
 
-bare : tie.Need-returns
+bare : tie.Need-returns-then-n-eq0
 bare c =
     let s = c.before.before in
-    let none : s.args.n - 1 ≡ 0 = omega (arith, c.before.if1.true) in
+    let none : s.args.n - 1 ≡ 0 = omega (arith, c.if-n-eq0.true) in
     ap (λ (k : ℕ). k + s.args.free) c.key.ensures
     ∙ sym (ap (λ (n : ℕ). (the_row s.args.row).key + (s.args.free + n)) none ∙ omega arith)
     ∙ sum s
 
-fielded : tie.Need-returns-2
-fielded c = let s = c.before.before in ap (λ (k : ℕ). k + (s.args.free + (s.args.n - 1))) c.key2.ensures ∙ sum s
+fielded : tie.Need-returns
+fielded c = let s = c.before.before in ap (λ (k : ℕ). k + (s.args.free + (s.args.n - 1))) c.key-2.ensures ∙ sum s
 
 pub header_for_spec : {M : Type 1} → statement M
 header_for_spec =
     tie.close
     (tie.spec (λ c κs. search rules) (λ c. omega (arith, c.key.ensures, small c.before.before)) bare (λ c κs. search rules)
     (λ c. omega (arith, few c.before.before)) (λ c. search rules) (λ c. omega (arith, small c.before.before))
-    (λ c. omega (arith, c.key2.ensures, small c.before.before)) fielded)
+    (λ c. omega (arith, c.key-2.ensures, small c.before.before)) fielded)

@@ -25,121 +25,121 @@ abbrev d : tie.Start → Draft
 d s = let a = s.args in draft a.row a.free a.dwords.now a.room a.first
 
 -- 7
-abbrev start : tie.Else1 → tie.Start
+abbrev start : tie.Else-row-ge-ROWS → tie.Start
 start c = c.before.before
 
-row_known : (c : tie.Else1) → (start c).args.row < row_count
+row_known : (c : tie.Else-row-ge-ROWS) → (start c).args.row < row_count
 row_known c = search rules
 
-seven : (c : tie.Else1) → row_unknown (d (start c)) ≡ Pass
+seven : (c : tie.Else-row-ge-ROWS) → row_unknown (d (start c)) ≡ Pass
 unfolding row_unknown
 seven c = rw (lt-leb row_count (start c).args.row (row_known c))
 
 -- 8
-abbrev row : tie.Else2 → tie.Else1
+abbrev row : tie.Else-not-count_right → tie.Else-row-ge-ROWS
 row c = c.before.before
 
-count_known : (c : tie.Else2) → let a = (start (row c)).args in count_right (the_row a.row).total (group_size a.row) a.free (length a.dwords.now) ≡ true
-count_known c = sym c.before.count-right.ensures ∙ not-false _ c.if2.false
+count_known : (c : tie.Else-not-count_right) → let a = (start (row c)).args in count_right (the_row a.row).total (group_size a.row) a.free (length a.dwords.now) ≡ true
+count_known c = sym c.count_right.ensures ∙ c.if-not-count_right.false
 
-eight : (c : tie.Else2) → count_wrong (d (start (row c))) ≡ Pass
+eight : (c : tie.Else-not-count_right) → count_wrong (d (start (row c))) ≡ Pass
 unfolding count_wrong
 eight c = rw (count_known c)
 
 -- 10
-abbrev count : tie.Else3 → tie.Else2
+abbrev count : tie.Else-not-allowed → tie.Else-not-count_right
 count c = c.before.before.before
 
-free_known : (c : tie.Else3) → let a = (start (row (count c))).args in allowed a.free (the_row a.row).free ≡ true
+free_known : (c : tie.Else-not-allowed) → let a = (start (row (count c))).args in allowed a.free (the_row a.row).free ≡ true
 free_known c =
     let a = (start (row (count c))).args in
-    ap (allowed a.free) (sym c.before.before.free-bits.ensures) ∙ sym c.before.allowed.ensures ∙ not-false _ c.if3.false
+    ap (allowed a.free) (sym c.free_bits.ensures) ∙ sym c.allowed.ensures ∙ c.if-not-allowed.false
 
 -- what the code has asked of the dwords
-abbrev free : tie.After-dwords-kept → tie.Else3
+abbrev free : tie.After-dwords_kept → tie.Else-not-allowed
 free c = c.before.before
 
-kept_told : (c : tie.After-dwords-kept) → let s = start (row (count (free c))) in
-    c.dwords_kept_lem.result ≡ not (some_from (bit_wrong s.args.row (command_for (d s))) 1 (length s.args.dwords.now))
+kept_told : (c : tie.After-dwords_kept) → let s = start (row (count (free c))) in
+    c.dwords_kept.result ≡ not (some_from (bit_wrong s.args.row (command_for (d s))) 1 (length s.args.dwords.now))
 unfolding command_for
 kept_told c =
     let a = (start (row (count (free c)))).args in
-    c.dwords_kept_lem.ensures
-    ∙ ap (λ (h : ℕ). not (some_from (bit_wrong a.row (h ∷ a.dwords.now)) 1 (length a.dwords.now))) c.before.header-for.ensures
+    c.dwords_kept.ensures
+    ∙ ap (λ (h : ℕ). not (some_from (bit_wrong a.row (h ∷ a.dwords.now)) 1 (length a.dwords.now))) c.header_for.ensures
 
-stray : (c : tie.Then4) → bit_stray (d (start (row (count (free c.before))))) ≡ Fails (fault BitNotAllowed batch_window 0)
+stray : (c : tie.Then-not-dwords_kept) → bit_stray (d (start (row (count (free c.before))))) ≡ Fails (fault BitNotAllowed batch_window 0)
 unfolding bit_stray
 stray c =
     let asked = c.before in
     let s = start (row (count (free asked))) in
     let one : some_from (bit_wrong s.args.row (command_for (d s))) 1 (length s.args.dwords.now) ≡ true =
-    not-false _ (sym (kept_told asked) ∙ not-true _ c.if4.true) in
+    not-false _ (sym (kept_told asked) ∙ c.if-not-dwords_kept.true) in
     rw (free_known (free asked), one)
 
-ten : (c : tie.Else4) → bit_stray (d (start (row (count (free c.before))))) ≡ Pass
+ten : (c : tie.Else-not-dwords_kept) → bit_stray (d (start (row (count (free c.before))))) ≡ Pass
 unfolding bit_stray
 ten c =
     let asked = c.before in
     let s = start (row (count (free asked))) in
     let none : some_from (bit_wrong s.args.row (command_for (d s))) 1 (length s.args.dwords.now) ≡ false =
-    not-true _ (sym (kept_told asked) ∙ not-false _ c.if4.false) in
+    not-true _ (sym (kept_told asked) ∙ c.if-not-dwords_kept.false) in
     rw (free_known (free asked), none)
 
 -- each refusal, and none
-unknown : tie.Need-returns
+unknown : tie.Need-returns-then-row-ge-ROWS
 unfolding write_checks row_unknown
 unknown c =
     let s = c.before.before.before in
     c.fails.ensures
     ∙ fails_first [] row_unknown (count_wrong ∷ bit_stray ∷ room_short ∷ []) (d s) tt (rw (le-leb row_count s.args.row (search rules)))
 
-miscounted : tie.Need-returns-2
+miscounted : tie.Need-returns-then-not-count_right
 unfolding write_checks count_wrong
 miscounted c =
     let wrong = c.before in
     let asked = wrong.before in
     let s = start asked.before in
-    c.fails2.ensures
+    c.fails-then-not-count_right.ensures
     ∙ fails_first (row_unknown ∷ []) count_wrong (bit_stray ∷ room_short ∷ []) (d s) (seven asked.before, tt)
-    (rw (sym asked.count-right.ensures ∙ not-true _ wrong.if2.true))
+    (rw (sym asked.count_right.ensures ∙ wrong.if-not-count_right.true))
 
-free_stray : tie.Need-returns-3
+free_stray : tie.Need-returns-then-not-allowed
 unfolding write_checks bit_stray
 free_stray c =
     let wrong = c.before in
     let asked = wrong.before in
     let counted = asked.before.before in
     let a = (start (row counted)).args in
-    let no = ap (allowed a.free) (sym asked.before.free-bits.ensures) ∙ sym asked.allowed.ensures ∙ not-true _ wrong.if3.true in
-    c.fails3.ensures
+    let no = ap (allowed a.free) (sym asked.free_bits.ensures) ∙ sym asked.allowed.ensures ∙ wrong.if-not-allowed.true in
+    c.fails-then-not-allowed.ensures
     ∙ fails_first (row_unknown ∷ count_wrong ∷ []) bit_stray (room_short ∷ []) (d (start (row counted))) (seven (row counted), (eight counted, tt)) (rw no)
 
-dword_stray : tie.Need-returns-4
+dword_stray : tie.Need-returns-then-not-dwords_kept
 unfolding write_checks
 dword_stray c =
     let wrong = c.before in
     let counted = count (free wrong.before) in
-    c.fails4.ensures
+    c.fails-then-not-dwords_kept.ensures
     ∙ fails_first (row_unknown ∷ count_wrong ∷ []) bit_stray (room_short ∷ []) (d (start (row counted))) (seven (row counted), (eight counted, tt)) (stray wrong)
 
-no_room : tie.Need-returns-5
+no_room : tie.Need-returns-then-room_short
 unfolding write_checks room_short
 no_room c =
     let short = c.before in
     let kept = short.before.before in
     let counted = count (free kept.before) in
-    c.fails5.ensures
+    c.fails-then-room_short.ensures
     ∙ fails_first (row_unknown ∷ count_wrong ∷ bit_stray ∷ []) room_short [] (d (start (row counted)))
-    (seven (row counted), (eight counted, (ten kept, tt))) (rw (sym short.before.room-short.ensures ∙ short.if5.true))
+    (seven (row counted), (eight counted, (ten kept, tt))) (rw (sym short.room_short.ensures ∙ short.if-room_short.true))
 
-passes : tie.Need-returns-6
+passes : tie.Need-returns
 unfolding write_checks room_short
 passes c =
     let kept = c.before.before in
     let counted = count (free kept.before) in
     sym
     (no_fault (d (start (row counted))) write_checks
-    (seven (row counted), (eight counted, (ten kept, (rw (sym c.before.room-short.ensures ∙ c.if5.false), tt)))))
+    (seven (row counted), (eight counted, (ten kept, (rw (sym c.room_short.ensures ∙ c.if-room_short.false), tt)))))
 
 pub judged_spec : {M : Type 1} → statement M
 judged_spec =

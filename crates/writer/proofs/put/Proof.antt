@@ -11,18 +11,18 @@ use Rattle.writer.proofs.WriterLaws.{copied}
 use Rattle.writer.proofs.put.Statement.{statement}
 use Rattle.writer.proofs.put.Tie as tie
 
-abbrev invariant_loop : tie.invariant_loop
+abbrev invariant_loop : tie.invariant-loop-i
 invariant_loop header dwords into₀ first i₀ into i = (into ≡ paste into₀ (first + 1) dwords i) × (i ≤ length dwords)
 
-abbrev decreases_loop : tie.decreases_loop
+abbrev decreases_loop : tie.decreases-loop-i
 decreases_loop header dwords into₀ first i₀ into i = length dwords - i
 
 -- the buffer keeps its length
-as_long : (c : tie.At-loop invariant_loop decreases_loop) → length c.loop.into ≡ length c.before.args.into.now
+as_long : (c : tie.At-loop-i invariant_loop decreases_loop) → length c.loop-i.into ≡ length c.args.into.now
 as_long c =
-    let a = c.before.args in
-    ap length c.loop.invariant.0
-    ∙ length-paste _ (a.first + 1) a.dwords.now c.loop.i (rw length-set (omega (arith, c.before.requires, c.loop.invariant.1))) c.loop.invariant.1
+    let a = c.args in
+    ap length c.loop-i.invariant.0
+    ∙ length-paste _ (a.first + 1) a.dwords.now c.loop-i.i (rw length-set (omega (arith, c.requires, c.loop-i.invariant.1))) c.loop-i.invariant.1
     ∙ length-set a.into.now a.first a.header
 
 pub put_spec : {M : Type 1} → statement M
@@ -33,13 +33,13 @@ put_spec =
     (λ c. search rules) (λ c. omega (arith, as_long c.before.before)) (λ c. search rules) (λ c. search rules)
     (λ c.
     let turn = c.before.before in
-    let a = turn.before.args in
-    (rw (turn.loop.invariant.0, add-one turn.loop.i) (paste-suc _ (a.first + 1) a.dwords.now turn.loop.i 0 (rw length-set (search rules)) (search rules)), search rules))
+    let a = turn.args in
+    (rw (turn.loop-i.invariant.0, add-one turn.loop-i.i) (paste-suc _ (a.first + 1) a.dwords.now turn.loop-i.i 0 (rw length-set (search rules)) (search rules)), search rules))
     (λ c. as_long c.before)
     (λ c.
     let turn = c.before in
-    let a = turn.before.args in
-    let all : turn.loop.i ≡ length a.dwords.now = search rules in
-    turn.loop.invariant.0
+    let a = turn.args in
+    let all : turn.loop-i.i ≡ length a.dwords.now = search rules in
+    turn.loop-i.invariant.0
     ∙ ap (paste (set a.into.now a.first a.header) (a.first + 1) a.dwords.now) all
-    ∙ copied a.into.now a.dwords.now a.first a.header turn.before.requires))
+    ∙ copied a.into.now a.dwords.now a.first a.header turn.requires))

@@ -19,5 +19,5 @@ by_difference room first dwords h =
 pub room_short_spec : {M : Type 1} → statement M
 room_short_spec =
     tie.close
-    (tie.spec (λ c. let a = c.before.args in sym (lt-ltb a.room (a.first + (1 + a.dwords)) (search rules))) (λ c. search rules)
-    (λ c. search rules) (λ c. let a = c.before.args in by_difference a.room a.first a.dwords (search rules)))
+    (tie.spec (λ c. let a = c.args in sym (lt-ltb a.room (a.first + (1 + a.dwords)) (search rules))) (λ c. search rules)
+    (λ c. search rules) (λ c. let a = c.args in by_difference a.room a.first a.dwords (search rules)))

@@ -22,22 +22,22 @@ abbrev d : tie.After-judged → Draft
 d c = let a = (start c).args in draft a.row a.free a.dwords.now (length a.batch.now) a.first
 
 -- a refusal
-abbrev judged : tie.After-fault → tie.After-judged
-judged c = c.before.before
+abbrev judged : tie.In-Fails-2 → tie.After-judged
+judged c = c.before
 
-refusal : (c : tie.After-fault) → write_verdict (d (judged c)) ≡ Fails c.fault.given.0.0
-refusal c = sym (judged c).judged.ensures ∙ c.fault.given.1
+refusal : (c : tie.In-Fails-2) → write_verdict (d (judged c)) ≡ Fails c.in-Fails.fault
+refusal c = sym (judged c).judged.ensures ∙ c.in-Fails.is
 
 -- and none
-abbrev clear : tie.After-enum-told → tie.After-judged
-clear c = c.before.before
+abbrev clear : tie.In-Pass → tie.After-judged
+clear c = c.before
 
-pass : (c : tie.After-enum-told) → write_verdict (d (clear c)) ≡ Pass
-pass c = sym (clear c).judged.ensures ∙ c.enum_told.given.1
+pass : (c : tie.In-Pass) → write_verdict (d (clear c)) ≡ Pass
+pass c = sym (clear c).judged.ensures ∙ c.in-Pass.is
 
-refused : tie.Need-returns
+refused : tie.Need-returns-in-Fails
 refused c =
-    let told = c.before.before in
+    let told = c.before in
     let w = d (judged told) in
     let old = (start (judged told)).args.batch.now in
     record {
@@ -45,7 +45,7 @@ refused c =
       words = sym (ap (λ (v : Verdict). written_by v (command_for w) w.first old) (refusal told));
     }
 
-written : tie.Need-returns-2
+written : tie.Need-returns-in-Pass
 unfolding answer_with command_for
 written c =
     let put = c.before.before in
@@ -57,13 +57,13 @@ written c =
       answers = sym (ap (λ (v : Verdict). answer_with v (write_count v)) (pass told));
       words =
           put.put.ensures
-          ∙ ap (λ (h : ℕ). written_by Pass (h ∷ w.dwords) w.first old) made.header-for.ensures
+          ∙ ap (λ (h : ℕ). written_by Pass (h ∷ w.dwords) w.first old) made.header_for.ensures
           ∙ sym (ap (λ (v : Verdict). written_by v (header_for w.row w.free (length w.dwords) ∷ w.dwords) w.first old) (pass told));
     }
 
 pub write_spec : {M : Type 1} → statement M
 write_spec =
     tie.close
-    (tie.spec (λ c κs. search rules) (λ c. search rules) (λ c κs. let told = c.before in write_place (d (judged told)) _ (refusal told)) (λ c. search rules)
+    (tie.spec (λ c κs. search rules) (λ c. search rules) (λ c κs. let told = c in write_place (d (judged told)) _ (refusal told)) (λ c. search rules)
     (λ c κs. let w = d (clear c) in (row_known w (pass c), count_known w (pass c), free_kept w (pass c)))
     (λ c κs. let told = c.before.before in has_room (d (clear told)) (pass told)) refused (λ c. search rules) written)

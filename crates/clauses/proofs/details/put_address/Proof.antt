@@ -12,7 +12,7 @@ returns c =
     let close = c.before.before in
     let digits = close.before.before.before.before.before in
     let words = digits.before.before.before.before in
-    then (then words.put-text.ensures digits.put_hex.ensures) close.put-text2.ensures
+    then (then words.put_text-digits.ensures digits.put_hex-end.ensures) close.put_text.ensures
 
 pub put_address_spec : {M : Type 1} → statement M
 put_address_spec =

@@ -7,17 +7,17 @@ use Rattle.clauses.specs.Clauses.{bytes_text}
 use Rattle.clauses.proofs.details.put_bytes.Statement.{statement}
 use Rattle.clauses.proofs.details.put_bytes.Tie as tie
 
-returns : tie.Need-returns
+returns : tie.Need-returns-then-n-eq1
 unfolding bytes_text
 returns c =
     let count = c.before.before in
-    simp (eq-eqb _ _ count.before.before.before.if1.true) (at_most (search rules) count.put_count.ensures)
+    simp (eq-eqb _ _ count.if-n-eq1.true) (at_most (search rules) count.put_count.ensures)
 
-returns_2 : tie.Need-returns-2
+returns_2 : tie.Need-returns-else-n-eq1
 unfolding bytes_text
 returns_2 c =
     let count = c.before.before in
-    simp (ne_eqb _ _ count.before.before.before.if1.false) count.put-count2.ensures
+    simp (ne_eqb _ _ count.if-n-eq1.false) count.put_count-else-n-eq1.ensures
 
 pub put_bytes_spec : {M : Type 1} → statement M
 put_bytes_spec =

@@ -9,7 +9,7 @@ returns : tie.Need-returns
 unfolding command_text
 returns c =
     let words = c.before.before in
-    rw words.before.command-row.ensures at words.put-words.ensures
+    rw words.command_row.ensures at words.put_words.ensures
 
 pub put_command_spec : {M : Type 1} → statement M
 put_command_spec =

@@ -6,33 +6,33 @@ use Rattle.clauses.specs.Clauses.{detail_text}
 use Rattle.clauses.proofs.details.put_detail.Statement.{statement}
 use Rattle.clauses.proofs.details.put_detail.Tie as tie
 
-returns : tie.Need-returns
+returns : tie.Need-returns-in-NoMore
 unfolding detail_text
-returns c = rw c.enum_told.given.1 nothing
+returns c = rw c.in-NoMore.is nothing
 
-returns_2 : tie.Need-returns-2
+returns_2 : tie.Need-returns-in-InCommand
 unfolding detail_text
 returns_2 c =
     let words = c.before.before in
-    rw words.before.before.before.detail.given.1 (at_most (search rules) words.put-command.ensures)
+    rw words.in-InCommand.is (at_most (search rules) words.put_command.ensures)
 
-returns_3 : tie.Need-returns-3
+returns_3 : tie.Need-returns-in-Reach
 unfolding detail_text
 returns_3 c =
     let words = c.before.before in
-    rw words.before.before.before.detail2.given.1 words.put-reach.ensures
+    rw words.in-Reach.is words.put_reach.ensures
 
-returns_4 : tie.Need-returns-4
+returns_4 : tie.Need-returns-in-HasBytes
 unfolding detail_text
 returns_4 c =
     let words = c.before.before in
-    rw words.before.before.before.detail3.given.1 (at_most (search rules) words.put-size.ensures)
+    rw words.in-HasBytes.is (at_most (search rules) words.put_size.ensures)
 
-returns_5 : tie.Need-returns-5
+returns_5 : tie.Need-returns-in-HasTooMany
 unfolding detail_text
 returns_5 c =
     let words = c.before.before in
-    rw words.before.before.before.enum-told2.given.1 (at_most (search rules) words.put-text.ensures)
+    rw words.in-HasTooMany.is (at_most (search rules) words.put_text.ensures)
 
 pub put_detail_spec : {M : Type 1} → statement M
 put_detail_spec =

@@ -15,10 +15,10 @@ returns c =
     let space = count.before.before.before.before in
     let kind = space.before.before.before.before.before in
     let command = kind.before.before.before.before.before.before in
-    let does = rw kind.before.access-row.ensures at kind.put-words.ensures in
-    let should = rw lies.before.within-row.ensures at lies.put-words2.ensures in
-    let length = then space.put-text.ensures count.put-bytes.ensures in
-    then (then (then (then command.put-command.ensures does) length) address.put-address.ensures) should
+    let does = rw kind.access_row.ensures at kind.put_words-space.ensures in
+    let should = rw lies.within_row.ensures at lies.put_words.ensures in
+    let length = then space.put_text-number.ensures count.put_bytes-place.ensures in
+    then (then (then (then command.put_command-kind.ensures does) length) address.put_address-should.ensures) should
 
 pub put_reach_spec : {M : Type 1} → statement M
 put_reach_spec =

@@ -11,7 +11,7 @@ unfolding refused_words
 returns c =
     let detail = c.before.before in
     let row = detail.before.before.before.before in
-    then (rw row.before.reason-row.ensures at row.put-row.ensures) detail.put-detail.ensures
+    then (rw row.reason_row.ensures at row.put_row-more.ensures) detail.put_detail.ensures
 
 pub put_refusal_spec : {M : Type 1} → statement M
 put_refusal_spec =

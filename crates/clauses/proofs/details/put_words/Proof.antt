@@ -9,7 +9,7 @@ returns : tie.Need-returns
 returns c =
     let row = c.before.before in
     let text = row.before.before.before.before in
-    then text.put-text.ensures row.put-row.ensures
+    then text.put_text-words.ensures row.put_row.ensures
 
 pub put_words_spec : {M : Type 1} → statement M
 put_words_spec = tie.close (tie.spec (λ c κs. search rules) (λ c κs. search rules) (λ c. search rules) returns)

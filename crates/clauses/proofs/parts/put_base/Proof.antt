@@ -6,17 +6,17 @@ use Rattle.clauses.specs.Clauses.{base_text}
 use Rattle.clauses.proofs.parts.put_base.Statement.{statement}
 use Rattle.clauses.proofs.parts.put_base.Tie as tie
 
-returns : tie.Need-returns
+returns : tie.Need-returns-in-StateWindow
 unfolding base_text
 returns c =
     let text = c.before.before in
-    rw text.before.before.before.enum_told.given.1 (at_most (search rules) text.put-text.ensures)
+    rw text.in-StateWindow.is (at_most (search rules) text.put_text.ensures)
 
-returns_2 : tie.Need-returns-2
+returns_2 : tie.Need-returns-in-NoBase
 unfolding base_text
 returns_2 c =
     let text = c.before.before in
-    rw text.before.before.before.enum-told2.given.1 (at_most (search rules) text.put-text2.ensures)
+    rw text.in-NoBase.is (at_most (search rules) text.put_text-in-NoBase.ensures)
 
 pub put_base_spec : {M : Type 1} → statement M
 put_base_spec =

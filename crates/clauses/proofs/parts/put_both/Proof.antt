@@ -9,7 +9,7 @@ returns : tie.Need-returns
 returns c =
     let second = c.before.before in
     let first = second.before.before.before.before in
-    then first.put-text.ensures second.put-text2.ensures
+    then first.put_text-next.ensures second.put_text.ensures
 
 pub put_both_spec : {M : Type 1} → statement M
 put_both_spec = tie.close (tie.spec (λ c κs. search rules) (λ c κs. search rules) (λ c. search rules) returns)

@@ -7,17 +7,17 @@ use Rattle.clauses.specs.Clauses.{commands_text}
 use Rattle.clauses.proofs.parts.put_commands.Statement.{statement}
 use Rattle.clauses.proofs.parts.put_commands.Tie as tie
 
-returns : tie.Need-returns
+returns : tie.Need-returns-then-count-eq1
 unfolding commands_text
 returns c =
     let count = c.before.before in
-    simp (eq-eqb _ _ count.before.before.before.if1.true) (at_most (search rules) count.put_count.ensures)
+    simp (eq-eqb _ _ count.if-count-eq1.true) (at_most (search rules) count.put_count.ensures)
 
-returns_2 : tie.Need-returns-2
+returns_2 : tie.Need-returns-else-count-eq1
 unfolding commands_text
 returns_2 c =
     let count = c.before.before in
-    simp (ne_eqb _ _ count.before.before.before.if1.false) count.put-count2.ensures
+    simp (ne_eqb _ _ count.if-count-eq1.false) count.put_count-else-count-eq1.ensures
 
 pub put_commands_spec : {M : Type 1} → statement M
 put_commands_spec =

@@ -12,7 +12,7 @@ returns c =
     let close = c.before.before in
     let digits = close.before.before.before.before.before in
     let bracket = digits.before.before.before.before in
-    then (then bracket.put_byte.ensures digits.put_hex.ensures) close.put-text.ensures
+    then (then bracket.put_byte-digits.ensures digits.put_hex-close.ensures) close.put_text.ensures
 
 pub put_dword_spec : {M : Type 1} → statement M
 put_dword_spec =

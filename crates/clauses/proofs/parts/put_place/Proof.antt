@@ -7,20 +7,20 @@ use Rattle.clauses.specs.Clauses.{place_text}
 use Rattle.clauses.proofs.parts.put_place.Statement.{statement}
 use Rattle.clauses.proofs.parts.put_place.Tie as tie
 
-returns : tie.Need-returns
+returns : tie.Need-returns-then-answer-eq6
 unfolding place_text
 returns c =
     let words = c.before.before in
-    simp (eq-eqb _ _ words.before.before.before.if1.true) (at_most (search rules) words.put-text.ensures)
+    simp (eq-eqb _ _ words.if-answer-eq6.true) (at_most (search rules) words.put_text.ensures)
 
-returns_2 : tie.Need-returns-2
+returns_2 : tie.Need-returns
 unfolding place_text
 returns_2 c =
     let dword = c.before.before in
     let index = dword.before.before.before.before in
     let window = index.before.before.before.before.before.before in
-    simp (ne_eqb _ _ window.before.before.if1.false)
-    (then (then window.put-window.ensures index.put_count.ensures) dword.put-dword.ensures)
+    simp (ne_eqb _ _ window.if-answer-eq6.false)
+    (then (then window.put_window-index.ensures index.put_count-open.ensures) dword.put_dword.ensures)
 
 pub put_place_spec : {M : Type 1} → statement M
 put_place_spec =

@@ -7,23 +7,23 @@ use Rattle.clauses.specs.Clauses.{progress_text}
 use Rattle.clauses.proofs.parts.put_progress.Statement.{statement}
 use Rattle.clauses.proofs.parts.put_progress.Tie as tie
 
-returns : tie.Need-returns
+returns : tie.Need-returns-then-answer-lt5
 unfolding progress_text
-returns c = simp (lt-ltb _ _ c.if1.true) nothing
+returns c = simp (lt-ltb _ _ c.if-answer-lt5.true) nothing
 
-returns_2 : tie.Need-returns-2
+returns_2 : tie.Need-returns-then-answer-gt18
 unfolding progress_text
-returns_2 c = simp (le-ltb _ _ c.before.before.if1.false, lt-ltb _ _ c.if2.true) nothing
+returns_2 c = simp (le-ltb _ _ c.if-answer-lt5.false, lt-ltb _ _ c.if-answer-gt18.true) nothing
 
-returns_3 : tie.Need-returns-3
+returns_3 : tie.Need-returns
 unfolding progress_text
 returns_3 c =
     let count = c.before.before in
     let after = count.before.before.before.before in
     let place = after.before.before.before.before.before in
     let test = place.before.before in
-    simp (le-ltb _ _ test.before.before.if1.false, le-ltb _ _ test.if2.false)
-    (then (then place.put-place.ensures after.put-text.ensures) count.put-commands.ensures)
+    simp (le-ltb _ _ test.if-answer-lt5.false, le-ltb _ _ test.if-answer-gt18.false)
+    (then (then place.put_place-after.ensures after.put_text-count.ensures) count.put_commands.ensures)
 
 pub put_progress_spec : {M : Type 1} → statement M
 put_progress_spec =

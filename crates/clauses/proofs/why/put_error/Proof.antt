@@ -7,21 +7,21 @@ use Rattle.clauses.specs.Clauses.{error_text}
 use Rattle.clauses.proofs.why.put_error.Statement.{statement}
 use Rattle.clauses.proofs.why.put_error.Tie as tie
 
-returns : tie.Need-returns
+returns : tie.Need-returns-then-error-gt40
 unfolding error_text
 returns c =
     let digits = c.before.before in
     let words = digits.before.before.before.before in
     let test = words.before.before.before in
-    simp (lt-ltb _ _ test.if1.true)
-    (at_most (search rules) (then words.put-text.ensures digits.put_digits.ensures))
+    simp (lt-ltb _ _ test.if-error-gt40.true)
+    (at_most (search rules) (then words.put_text-number.ensures digits.put_digits.ensures))
 
-returns_2 : tie.Need-returns-2
+returns_2 : tie.Need-returns
 unfolding error_text
 returns_2 c =
     let words = c.before.before in
     let test = words.before.before.before.before in
-    simp (le-ltb _ _ test.if1.false) (rw words.before.error-row.ensures at words.put-words.ensures)
+    simp (le-ltb _ _ test.if-error-gt40.false) (rw words.error_row.ensures at words.put_words.ensures)
 
 pub put_error_spec : {M : Type 1} → statement M
 put_error_spec =

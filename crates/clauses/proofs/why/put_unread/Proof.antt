@@ -6,47 +6,47 @@ use Rattle.clauses.specs.Clauses.{unread_words}
 use Rattle.clauses.proofs.why.put_unread.Statement.{statement}
 use Rattle.clauses.proofs.why.put_unread.Tie as tie
 
-returns : tie.Need-returns
+returns : tie.Need-returns-in-NoSuchFile
 unfolding unread_words
 returns c =
     let words = c.before.before in
-    rw words.before.before.before.enum_told.given.1 (at_most (search rules) words.put-text.ensures)
+    rw words.in-NoSuchFile.is (at_most (search rules) words.put_text.ensures)
 
-returns_2 : tie.Need-returns-2
+returns_2 : tie.Need-returns-in-NotAllowed
 unfolding unread_words
 returns_2 c =
     let words = c.before.before in
-    rw words.before.before.before.enum-told2.given.1 (at_most (search rules) words.put-text2.ensures)
+    rw words.in-NotAllowed.is (at_most (search rules) words.put_text-in-NotAllowed.ensures)
 
-returns_3 : tie.Need-returns-3
+returns_3 : tie.Need-returns-in-Folder
 unfolding unread_words
 returns_3 c =
     let words = c.before.before in
-    rw words.before.before.before.enum-told3.given.1 (at_most (search rules) words.put-text3.ensures)
+    rw words.in-Folder.is (at_most (search rules) words.put_text-in-Folder.ensures)
 
-returns_4 : tie.Need-returns-4
+returns_4 : tie.Need-returns-in-NameTooLong
 unfolding unread_words
 returns_4 c =
     let words = c.before.before in
-    rw words.before.before.before.enum-told4.given.1 (at_most (search rules) words.put-text4.ensures)
+    rw words.in-NameTooLong.is (at_most (search rules) words.put_text-in-NameTooLong.ensures)
 
-returns_5 : tie.Need-returns-5
+returns_5 : tie.Need-returns-in-Changed
 unfolding unread_words
 returns_5 c =
     let words = c.before.before in
-    rw words.before.before.before.enum-told5.given.1 (at_most (search rules) words.put-text5.ensures)
+    rw words.in-Changed.is (at_most (search rules) words.put_text-in-Changed.ensures)
 
-returns_6 : tie.Need-returns-6
+returns_6 : tie.Need-returns-in-NoRegularFile
 unfolding unread_words
 returns_6 c =
     let words = c.before.before in
-    rw words.before.before.before.enum-told6.given.1 (at_most (search rules) words.put-text6.ensures)
+    rw words.in-NoRegularFile.is (at_most (search rules) words.put_text-in-NoRegularFile.ensures)
 
-returns_7 : tie.Need-returns-7
+returns_7 : tie.Need-returns-in-Other
 unfolding unread_words
 returns_7 c =
     let words = c.before.before in
-    rw words.before.before.before.why.given.1 words.put-error.ensures
+    rw words.in-Other.is words.put_error.ensures
 
 pub put_unread_spec : {M : Type 1} → statement M
 put_unread_spec =

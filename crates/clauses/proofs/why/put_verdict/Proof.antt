@@ -6,17 +6,17 @@ use Rattle.lines.proofs.Putting.{at_most}
 use Rattle.clauses.proofs.why.put_verdict.Statement.{statement}
 use Rattle.clauses.proofs.why.put_verdict.Tie as tie
 
-returns : tie.Need-returns
+returns : tie.Need-returns-then-is_missing
 returns c =
     let words = c.before.before in
     let test = words.before.before.before in
-    rw (sym test.before.is-missing.ensures ∙ test.if1.true) words.put-text.ensures
+    rw (sym test.is_missing.ensures ∙ test.if-is_missing.true) words.put_text.ensures
 
-returns_2 : tie.Need-returns-2
+returns_2 : tie.Need-returns-else-is_missing
 returns_2 c =
     let words = c.before.before in
     let test = words.before.before.before in
-    rw (sym test.before.is-missing.ensures ∙ test.if1.false) (at_most (search rules) words.put-text2.ensures)
+    rw (sym test.is_missing.ensures ∙ test.if-is_missing.false) (at_most (search rules) words.put_text-else-is_missing.ensures)
 
 pub put_verdict_spec : {M : Type 1} → statement M
 put_verdict_spec =

@@ -26,10 +26,10 @@ by_masks r d masks k j below row lent small =
     ∙ sym (used_or_kept (used_high_of r d k j) _ _ small))
 
 abbrev used : tie.After-allowed → Bool
-used c = let a = c.before.before.before.before.args in used_high_of a.row a.command.now a.k a.j
+used c = let a = c.args in used_high_of a.row a.command.now a.k a.j
 
 -- so it is decided by the use, and by what the code has asked
-decides : (c : tie.After-allowed) → let a = c.before.before.before.before.args in let d = a.command.now in
+decides : (c : tie.After-allowed) → let a = c.args in let d = a.command.now in
     not (used c || c.allowed.result) ≡ not (allowed (get_or d a.k 0) (allowed_of a.row d a.k a.j))
 decides c =
     let known = c.before.before.before in
@@ -37,16 +37,16 @@ decides c =
     let p = start.requires in
     let a = start.args in
     ap (λ (kept : Bool). not (used c || kept)) c.allowed.ensures
-    ∙ by_masks a.row a.command.now _ a.k a.j p.1 p.2 p.3 (known.shared-slice-known.given a.k).fits
+    ∙ by_masks a.row a.command.now _ a.k a.j p.1 p.2 p.3 (known.shared_slice_known-1.given a.k).fits
 
-kept : tie.Need-returns
-kept c = let asked = c.before in sym (ap not (ap (λ (k : Bool). used asked || k) c.if1.true ∙ or-true (used asked))) ∙ decides asked
+kept : tie.Need-returns-then-allowed
+kept c = let asked = c.before in sym (ap not (ap (λ (k : Bool). used asked || k) c.if-allowed.true ∙ or-true (used asked))) ∙ decides asked
 
-by_use : tie.Need-returns-2
+by_use : tie.Need-returns
 by_use c =
     let other = c.before in
     let asked = other.before in
-    ap not (c.high_used.ensures ∙ sym (ap (λ (k : Bool). used asked || k) other.if1.false ∙ or-false (used asked))) ∙ decides asked
+    ap not (c.high_used.ensures ∙ sym (ap (λ (k : Bool). used asked || k) other.if-allowed.false ∙ or-false (used asked))) ∙ decides asked
 
 pub bit_wrong_spec : {M : Type 1} → statement M
 bit_wrong_spec =

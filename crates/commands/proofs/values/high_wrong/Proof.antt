@@ -7,13 +7,13 @@ use Rattle.rules.specs.Values.{high_wrong}
 use Rattle.commands.proofs.values.high_wrong.Statement.{statement}
 use Rattle.commands.proofs.values.high_wrong.Tie as tie
 
-is_canonical : tie.Need-returns
+is_canonical : tie.Need-returns-then-canonical
 unfolding high_wrong
-is_canonical c = simp (sym c.before.canonical.ensures ∙ c.if1.true, and-false)
+is_canonical c = simp (sym c.canonical.ensures ∙ c.if-canonical.true, and-false)
 
-by_use : tie.Need-returns-2
+by_use : tie.Need-returns
 unfolding high_wrong
-by_use c = c.high_used.ensures ∙ simp (sym c.before.before.canonical.ensures ∙ c.before.if1.false, and-true)
+by_use c = c.high_used.ensures ∙ simp (sym c.canonical.ensures ∙ c.if-canonical.false, and-true)
 
 pub high_wrong_spec : {M : Type 1} → statement M
 high_wrong_spec = tie.close (tie.spec (λ c. search rules) (λ c. search rules) (λ c κs. search rules) is_canonical (λ c κs. search rules) by_use)

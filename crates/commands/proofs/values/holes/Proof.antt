@@ -8,7 +8,7 @@ use Rattle.commands.proofs.values.holes.Tie as tie
 pub holes_spec : {M : Type 1} → statement M
 holes_spec =
     tie.close
-    (tie.spec (λ c. let a = c.before.before.args in none_last_two a.second a.third a.last (search rules) (search rules))
-    (λ c. let a = c.before.before.args in none_last a.second a.third a.last (search rules) (search rules))
-    (λ c. let a = c.before.before.args in some_last a.second a.third a.last (search rules) (search rules))
-    (λ c. let a = c.before.before.args in some_third a.second a.third a.last (search rules) (search rules)))
+    (tie.spec (λ c. let a = c.args in none_last_two a.second a.third a.last (search rules) (search rules))
+    (λ c. let a = c.args in none_last a.second a.third a.last (search rules) (search rules))
+    (λ c. let a = c.args in some_last a.second a.third a.last (search rules) (search rules))
+    (λ c. let a = c.args in some_third a.second a.third a.last (search rules) (search rules)))

@@ -5,4 +5,4 @@ use Rattle.commands.proofs.values.index_buffer_wrong.Statement.{statement}
 use Rattle.commands.proofs.values.index_buffer_wrong.Tie as tie
 
 pub index_buffer_wrong_spec : {M : Type 1} → statement M
-index_buffer_wrong_spec = tie.close (tie.spec (λ c. simp (ne_eqb _ _ c.if1.true)) (λ c. simp (eq-eqb _ _ c.if1.false)))
+index_buffer_wrong_spec = tie.close (tie.spec (λ c. simp (ne_eqb _ _ c.if-j-ne1.true)) (λ c. simp (eq-eqb _ _ c.if-j-ne1.false)))

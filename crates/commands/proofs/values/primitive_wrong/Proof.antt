@@ -8,52 +8,52 @@ use Rattle.commands.proofs.values.primitive_wrong.Statement.{statement}
 use Rattle.commands.proofs.values.primitive_wrong.Tie as tie
 
 -- bit 9 of dword 1 decides whether the rule asks anything
-unasked : tie.Need-returns
-unasked c = simp (ne_eqb _ _ c.if1.true, ← c.before.dword.ensures)
+unasked : tie.Need-returns-then-dword-ne1
+unasked c = simp (ne_eqb _ _ c.if-dword-ne1.true, ← c.dword.ensures)
 
 -- dword 1, by bit 10 of the header
-by_header : tie.Need-returns-2
+by_header : tie.Need-returns-then-dword-eq1
 by_header c =
     let first = c.before.before in
     let asked = first.before in
-    simp (eq-eqb _ _ c.if3.true, ← c.before.dword2.ensures, eq-eqb _ _ first.if2.true, eq-eqb _ _ asked.if1.false, ← asked.before.dword.ensures)
+    simp (eq-eqb _ _ c.if-dword-eq1.true, ← c.dword-then-j-eq1.ensures, eq-eqb _ _ first.if-j-eq1.true, eq-eqb _ _ asked.if-dword-ne1.false, ← asked.dword.ensures)
 
-by_bit_lem : tie.Need-returns-3
+by_bit_lem : tie.Need-returns-then-j-eq1
 by_bit_lem c =
     let first = c.before.before in
     let asked = first.before in
-    simp (first.if2.true, ← c.before.dword2.ensures, ne_eqb _ _ c.if3.false, ← asked.before.dword.ensures, eq-eqb _ _ asked.if1.false, or-false)
+    simp (first.if-j-eq1.true, ← c.dword-then-j-eq1.ensures, ne_eqb _ _ c.if-dword-eq1.false, ← asked.dword.ensures, eq-eqb _ _ asked.if-dword-ne1.false, or-false)
 
 -- a dword behind it, which must be 0 in three places
-zero_there : tie.Need-returns-4
-zero_there c = simp (eq-eqb _ _ c.if4.true, ne_eqb _ _ c.before.if2.false, and-false)
+zero_there : tie.Need-returns-then-word-eq0
+zero_there c = simp (eq-eqb _ _ c.if-word-eq0.true, ne_eqb _ _ c.if-j-eq1.false, and-false)
 
-third_dword : tie.Need-returns-5
+third_dword : tie.Need-returns-then-j-eq3
 third_dword c =
     let behind = c.before.before in
     let asked = behind.before in
-    simp (eq-eqb _ _ c.if5.true, ne_eqb _ _ c.before.if4.false, ne_eqb _ _ behind.if2.false, eq-eqb _ _ asked.if1.false, ← asked.before.dword.ensures)
+    simp (eq-eqb _ _ c.if-j-eq3.true, ne_eqb _ _ c.if-word-eq0.false, ne_eqb _ _ behind.if-j-eq1.false, eq-eqb _ _ asked.if-dword-ne1.false, ← asked.dword.ensures)
 
-fifth_dword : tie.Need-returns-6
+fifth_dword : tie.Need-returns-then-j-eq5
 fifth_dword c =
     let some = c.before.before in
     let behind = some.before in
     let asked = behind.before in
     simp (
-      eq-eqb _ _ c.if6.true,
-      ne_eqb _ _ c.before.if5.false,
-      ne_eqb _ _ some.if4.false,
-      ne_eqb _ _ behind.if2.false,
-      eq-eqb _ _ asked.if1.false,
-      ← asked.before.dword.ensures,
+      eq-eqb _ _ c.if-j-eq5.true,
+      ne_eqb _ _ c.if-j-eq3.false,
+      ne_eqb _ _ some.if-word-eq0.false,
+      ne_eqb _ _ behind.if-j-eq1.false,
+      eq-eqb _ _ asked.if-dword-ne1.false,
+      ← asked.dword.ensures,
     )
 
-sixth_dword : tie.Need-returns-7
+sixth_dword : tie.Need-returns
 sixth_dword c =
     let asked = c.before.before.before.before in
     let dword = asked.before in
-    let a = dword.before.before.args in
-    behind_first a.command.now 0 a.j a.word (rw dword.dword.ensures at asked.if1.false) (search rules) (search rules) (search rules)
+    let a = dword.args in
+    behind_first a.command.now 0 a.j a.word (rw dword.dword.ensures at asked.if-dword-ne1.false) (search rules) (search rules) (search rules)
     (search rules)
 
 pub primitive_wrong_spec : {M : Type 1} → statement M

@@ -5,4 +5,4 @@ use Rattle.commands.proofs.values.start_wrong.Statement.{statement}
 use Rattle.commands.proofs.values.start_wrong.Tie as tie
 
 pub start_wrong_spec : {M : Type 1} → statement M
-start_wrong_spec = tie.close (tie.spec (λ c. simp (ne_eqb _ _ c.if1.true)) (λ c. simp (eq-eqb _ _ c.if1.false)))
+start_wrong_spec = tie.close (tie.spec (λ c. simp (ne_eqb _ _ c.if-j-ne0.true)) (λ c. simp (eq-eqb _ _ c.if-j-ne0.false)))

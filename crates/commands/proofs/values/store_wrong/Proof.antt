@@ -8,6 +8,6 @@ use Rattle.commands.proofs.values.store_wrong.Tie as tie
 pub store_wrong_spec : {M : Type 1} → statement M
 store_wrong_spec =
     tie.close
-    (tie.spec (λ c. simp (ne_eqb _ _ c.if1.true)) (λ c κs. search rules)
-    (λ c. simp (ne_eqb _ _ c.if2.true, ← c.before.dword.ensures, eq-eqb _ _ c.before.before.if1.false))
-    (λ c. simp (eq-eqb _ _ c.if2.false, ← c.before.dword.ensures, eq-eqb _ _ c.before.before.if1.false)))
+    (tie.spec (λ c. simp (ne_eqb _ _ c.if-j-ne1.true)) (λ c κs. search rules)
+    (λ c. simp (ne_eqb _ _ c.if-dword-ne1.true, ← c.dword.ensures, eq-eqb _ _ c.if-j-ne1.false))
+    (λ c. simp (eq-eqb _ _ c.if-dword-ne1.false, ← c.dword.ensures, eq-eqb _ _ c.if-j-ne1.false)))

@@ -8,5 +8,5 @@ use Rattle.commands.proofs.values.topology_wrong.Tie as tie
 pub topology_wrong_spec : {M : Type 1} → statement M
 topology_wrong_spec =
     tie.close
-    (tie.spec (λ c. simp (ne_eqb _ _ c.if1.true)) (λ c κs. search rules)
-    (λ c. simp (← c.known-topology.ensures, eq-eqb _ _ c.before.if1.false)))
+    (tie.spec (λ c. simp (ne_eqb _ _ c.if-j-ne1.true)) (λ c κs. search rules)
+    (λ c. simp (← c.known_topology.ensures, eq-eqb _ _ c.if-j-ne1.false)))

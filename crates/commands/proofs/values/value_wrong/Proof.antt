@@ -6,15 +6,15 @@ use Rattle.rules.specs.Values.{value_wrong_of}
 use Rattle.commands.proofs.values.value_wrong.Statement.{statement}
 use Rattle.commands.proofs.values.value_wrong.Tie as tie
 
-by_high : tie.Need-returns
+by_high : tie.Need-returns-then-high_wrong
 unfolding value_wrong_of
-by_high c = simp (sym c.before.high-wrong.ensures ∙ c.if1.true)
+by_high c = simp (sym c.high_wrong.ensures ∙ c.if-high_wrong.true)
 
-by_rule : tie.Need-returns-2
+by_rule : tie.Need-returns
 unfolding value_wrong_of
 by_rule c =
     let kept = c.before in
-    simp (sym kept.before.high-wrong.ensures ∙ kept.if1.false) c.rule-broken.ensures
+    simp (sym kept.high_wrong.ensures ∙ kept.if-high_wrong.false) c.rule_broken.ensures
 
 pub value_wrong_spec : {M : Type 1} → statement M
 value_wrong_spec = tie.close (tie.spec (λ c κs. search rules) by_high (λ c κs. search rules) by_rule)

@@ -8,23 +8,23 @@ use borrow.Author.Rules.{rules}
 use Rattle.commands.proofs.values.vertex_element_wrong.Statement.{statement}
 use Rattle.commands.proofs.values.vertex_element_wrong.Tie as tie
 
-too_high : tie.Need-returns
-too_high c = simp (lt-ltb _ _ c.if2.true, lt-leb _ _ c.if2.true, eq-eqb _ _ c.before.if1.true)
+too_high : tie.Need-returns-then-word-gt32
+too_high c = simp (lt-ltb _ _ c.if-word-gt32.true, lt-leb _ _ c.if-word-gt32.true, eq-eqb _ _ c.if-j-eq1.true)
 
-by_format : tie.Need-returns-2
+by_format : tie.Need-returns-then-j-eq1
 by_format c =
     let first = c.before.before in
     let s = first.before in
     let unknown = unknown_format s.args.formats.now (s.args.word / 65536 % 512) s.requires in
-    simp (c.known-format.ensures, first.if1.true, le-ltb _ _ c.before.if2.false, unknown, or-false)
+    simp (c.known_format.ensures, first.if-j-eq1.true, le-ltb _ _ c.if-word-gt32.false, unknown, or-false)
 
-by_components : tie.Need-returns-3
+by_components : tie.Need-returns-then-j-eq2
 by_components c =
     let second = c.before in
-    simp (← c.components-wrong.ensures, eq-eqb _ _ second.if3.true, ne_eqb _ _ second.before.if1.false)
+    simp (← c.components_wrong.ensures, eq-eqb _ _ second.if-j-eq2.true, ne_eqb _ _ second.if-j-eq1.false)
 
-neither : tie.Need-returns-4
-neither c = simp (ne_eqb _ _ c.if3.false, ne_eqb _ _ c.before.if1.false)
+neither : tie.Need-returns
+neither c = simp (ne_eqb _ _ c.if-j-eq2.false, ne_eqb _ _ c.if-j-eq1.false)
 
 pub vertex_element_wrong_spec : {M : Type 1} → statement M
 vertex_element_wrong_spec =

@@ -33,38 +33,38 @@ module _ (header size most : ℕ) where
           by (suc q) p = omega arith
 
 -- the length that the code asks for
-ends : (c : tie.After-length-by-field) → let start = c.before.before.before.before.before in
-    get_or start.args.rest.now 0 0 % 256 + 2 ≡ c.length-by-field.result
-ends c = sym (c.length-by-field.ensures ∙ ap (λ (f : ℕ). f + 2) (field_is _))
+ends : (c : tie.After-length_by_field) → let start = c.before.before.before.before.before in
+    get_or start.args.rest.now 0 0 % 256 + 2 ≡ c.length_by_field.result
+ends c = sym (c.length_by_field.ensures ∙ ap (λ (f : ℕ). f + 2) (field_is _))
 
 pub groups_header_spec : {M : Type 1} → statement M
 unfolding head_of groups_header
 groups_header_spec =
     tie.close
     (tie.spec (λ c. search rules) (λ c. search rules) (λ c. search rules) (λ c κs. search rules)
-    (λ c. let start = c.before.before.before.before in rw (uneven _ _ start.args.most c.before.if1.true) c.at.ensures)
+    (λ c. let start = c.before.before.before.before in rw (uneven _ _ start.args.most c.if-field-size-ne0.true) c.at.ensures)
     (λ c. search rules) (λ c. search rules) (λ c κs. search rules)
-    (λ c. let start = c.before.before.before.before.before in rw (too_many _ start.args.size _ c.before.if2.true) c.at2.ensures)
+    (λ c. let start = c.before.before.before.before.before in rw (too_many _ start.args.size _ c.if-most-field.true) c.at-then-most-field.ensures)
     (λ c κs. search rules) (λ c κs. search rules)
     (λ c.
     let call = c.before.before in
-    rw (counted _ _ _ call.before.before.if1.false call.before.if2.false, ends call, lt-ltb _ _ c.before.if3.true) c.at3.ensures)
+    rw (counted _ _ _ call.if-field-size-ne0.false call.if-most-field.false, ends call, lt-ltb _ _ c.if-rest-length_by_field.true) c.at-then-rest-length_by_field.ensures)
     (λ c. search rules) (λ c κs. search rules)
     (λ c.
     let inside = c.before.before in
     let call = inside.before in
     rw (
-      counted _ _ _ call.before.before.if1.false call.before.if2.false,
+      counted _ _ _ call.if-field-size-ne0.false call.if-most-field.false,
       ends call,
-      le-ltb _ _ inside.if3.false,
-      ne_eqb _ _ c.before.if4.true,
-    ) c.at4.ensures)
+      le-ltb _ _ inside.if-rest-length_by_field.false,
+      ne_eqb _ _ c.if-header-field.true,
+    ) c.at-then-header-field.ensures)
     (λ c.
     let inside = c.before in
     let call = inside.before in
     rw (
-      counted _ _ _ call.before.before.if1.false call.before.if2.false,
+      counted _ _ _ call.if-field-size-ne0.false call.if-most-field.false,
       ends call,
-      le-ltb _ _ inside.if3.false,
-      eq-eqb _ _ c.if4.false,
+      le-ltb _ _ inside.if-rest-length_by_field.false,
+      eq-eqb _ _ c.if-header-field.false,
     )))

@@ -11,8 +11,8 @@ unfolding head_of
 other_header_spec =
     tie.close
     (tie.spec (λ c. search rules) (λ c κs. search rules)
-    (λ c. rw (ne_eqb _ _ c.before.if1.true) c.at.ensures)
+    (λ c. rw (ne_eqb _ _ c.if-rest-field.true) c.at.ensures)
     (λ c. search rules) (λ c κs. search rules)
-    (λ c. rw (eq-eqb _ _ c.before.before.if1.false, lt-ltb _ _ c.before.if2.true) c.at2.ensures)
+    (λ c. rw (eq-eqb _ _ c.if-rest-field.false, lt-ltb _ _ c.if-rest-field-2.true) c.at-then-rest-field-2.ensures)
     (λ c κs. search rules)
-    (λ c. rw (eq-eqb _ _ c.before.before.if1.false, le-ltb _ _ c.before.if2.false) c.at3.ensures))
+    (λ c. rw (eq-eqb _ _ c.if-rest-field.false, le-ltb _ _ c.if-rest-field-2.false) c.at-2.ensures))

@@ -10,22 +10,22 @@ use Rattle.plain_shared.proofs.heads.whole_header.Statement.{statement}
 use Rattle.plain_shared.proofs.heads.whole_header.Tie as tie
 
 -- the length that the code asks for
-ends : (c : tie.After-length-by-field) → let start = c.before.before.before.before in start.args.header % 256 + 2 ≡ c.length-by-field.result
-ends c = sym (c.length-by-field.ensures ∙ ap (λ (f : ℕ). f + 2) (field_is _))
+ends : (c : tie.After-length_by_field) → let start = c.before.before.before.before in start.args.header % 256 + 2 ≡ c.length_by_field.result
+ends c = sym (c.length_by_field.ensures ∙ ap (λ (f : ℕ). f + 2) (field_is _))
 
 pub whole_header_spec : {M : Type 1} → statement M
 unfolding head_of whole_header
 whole_header_spec =
     tie.close
     (tie.spec (λ c. search rules) (λ c κs. search rules)
-    (λ c. rw (ne_eqb _ _ c.before.if1.true) c.other_header_lem.ensures)
+    (λ c. rw (ne_eqb _ _ c.if-rest-header.true) c.other_header.ensures)
     (λ c κs. search rules) (λ c κs. search rules)
     (λ c.
     let call = c.before.before in
-    let same = call.before.if1.false in
-    let past = lt-ltb _ _ c.before.if2.true in
+    let same = call.if-rest-header.false in
+    let past = lt-ltb _ _ c.if-rest-length_by_field.true in
     rw (eq-eqb _ _ (ap (λ (h : ℕ). h % 256) same), ends call, past) c.at.ensures)
     (λ c.
     let call = c.before in
-    let same = call.before.if1.false in
-    rw (eq-eqb _ _ (ap (λ (h : ℕ). h % 256) same), ends call, le-ltb _ _ c.if2.false, eq-eqb _ _ same)))
+    let same = call.if-rest-header.false in
+    rw (eq-eqb _ _ (ap (λ (h : ℕ). h % 256) same), ends call, le-ltb _ _ c.if-rest-length_by_field.false, eq-eqb _ _ same)))

@@ -10,7 +10,7 @@ use Rattle.plain_shared.proofs.numbers.fault_of.Tie as tie
 returns : tie.Need-returns
 returns c =
     let made = c.in_batch.ensures in (
-      ap (λ (f : Fault). number_of f.reason) made ∙ c.before.reason-of.ensures,
+      ap (λ (f : Fault). number_of f.reason) made ∙ c.reason_of.ensures,
       ap (λ (f : Fault). f.window) made,
       ap (λ (f : Fault). f.index) made,
     )

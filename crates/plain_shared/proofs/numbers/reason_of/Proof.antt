@@ -10,5 +10,5 @@ pub reason_of_spec : {M : Type 1} → statement M
 unfolding number_of
 reason_of_spec =
     tie.close
-    (tie.spec (λ c. sym c.match.keys1) (λ c. sym c.match.keys2) (λ c. sym c.match.keys3) (λ c. sym c.match.keys4)
-    (λ c. sym c.match.keys5) (λ c. sym c.match.keys6) (λ c. omega arith))
+    (tie.spec (λ c. sym c.in-7.is) (λ c. sym c.in-8.is) (λ c. sym c.in-9.is) (λ c. sym c.in-10.is)
+    (λ c. sym c.in-11.is) (λ c. sym c.in-12.is) (λ c. omega arith))
