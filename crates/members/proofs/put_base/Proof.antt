@@ -14,4 +14,4 @@ returns c =
 pub put_base_spec : {M : Type 1} → statement M
 put_base_spec =
     tie.close
-    (tie.spec (λ c. search rules) (λ c κs. search rules) (λ c κs. search rules) (λ c. search rules) returns)
+    (tie.spec (λ c κs. search rules) (λ c κs. search rules) (λ c. search rules) returns)

@@ -31,5 +31,5 @@ returns_3 c =
 pub put_quoted_byte_spec : {M : Type 1} → statement M
 put_quoted_byte_spec =
     tie.close
-    (tie.spec (λ c. search rules) (λ c κs. search rules) (λ c κs. search rules) (λ c. search rules) returns
+    (tie.spec (λ c κs. search rules) (λ c κs. search rules) (λ c. search rules) returns
     (λ c κs. search rules) (λ c. search rules) returns_2 (λ c κs. search rules) (λ c. search rules) returns_3)

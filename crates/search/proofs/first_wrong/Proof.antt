@@ -82,7 +82,7 @@ inside : (c : tie.Else-row-len invariant_loop decreases_loop invariant_groups de
 inside c =
     let g = group c.before.before in
     let size = (sized g).group_size-size.ensures in
-    within _ _ _ _ (start g).pre.1 g.groups.invariant.0 (rw (← size) g.groups.invariant.2) (omega arith) (omega (arith, size)) c.if-row-len.false
+    within _ _ _ _ (start g).requires.1 g.groups.invariant.0 (rw (← size) g.groups.invariant.2) (omega arith) (omega (arith, size)) c.if-row-len.false
 
 header_requires : tie.Need-wrong_at-requires invariant_loop decreases_loop invariant_groups decreases_groups
 header_requires c κs =
@@ -97,7 +97,7 @@ dword_requires : tie.Need-wrong_at-requires-in-loop-j invariant_loop decreases_l
 dword_requires c κs =
     let g = group c.before.before in
     let s = start g in
-    (inside c, omega (arith, (sized g).group_size-size.ensures), s.pre.0, own_masks s, s.pre.3)
+    (inside c, omega (arith, (sized g).group_size-size.ensures), s.requires.0, own_masks s, s.requires.3)
 
 loop_again : tie.Need-loop-j-preserved invariant_loop decreases_loop invariant_groups decreases_groups
 loop_again c =

@@ -28,12 +28,12 @@ start c = c.before.before.before.before
 some : (c : tie.In-loop-k invariant_loop decreases_loop) → 0 < c.group_size-size.result
 some c =
     let s = start c in
-    rw c.group_size-size.ensures (some_size (group_size s.args.row) (length s.args.command.now) s.pre.1 (omega (arith, c.loop-k.invariant.from)))
+    rw c.group_size-size.ensures (some_size (group_size s.args.row) (length s.args.command.now) s.requires.1 (omega (arith, c.loop-k.invariant.from)))
 
 few : (c : tie.In-loop-k invariant_loop decreases_loop) → 1 + (c.loop-k.k - 1) % c.group_size-size.result < 16
 few c =
     let s = start c in
-    omega (arith, mod-lt (c.loop-k.k - 1) (some c), c.group_size-size.ensures, size_small s.args.row s.pre.0)
+    omega (arith, mod-lt (c.loop-k.k - 1) (some c), c.group_size-size.ensures, size_small s.args.row s.requires.0)
 
 -- what the code has asked of the dword
 asked : (c : tie.After-bit_wrong invariant_loop decreases_loop) → let s = start c.before in
@@ -51,7 +51,7 @@ pub bits_kept_spec : {M : Type 1} → statement M
 bits_kept_spec =
     tie.close
     (tie.spec invariant_loop decreases_loop (λ c κs. search rules) (λ c. record { from = omega arith; rest = refl }) (λ c. c.loop-k.invariant.from) some
-    (λ c. omega (arith, few c)) (λ c κs. let s = start c in (search rules, few c, s.pre.0, s.pre.2))
+    (λ c. omega (arith, few c)) (λ c κs. let s = start c in (search rules, few c, s.requires.0, s.requires.2))
     (λ c. let turn = c.before.before in found turn.loop-k.invariant (search rules) (sym (asked c.before) ∙ c.if-bit_wrong.true))
     (λ c. search rules) (λ c. search rules)
     (λ c. let turn = c.before.before in goes_on turn.loop-k.invariant (search rules) (sym (asked c.before) ∙ c.if-bit_wrong.false))

@@ -38,5 +38,5 @@ pub put_detail_spec : {M : Type 1} → statement M
 put_detail_spec =
     tie.close
     (tie.spec (λ c. search rules) (λ c. search rules) (λ c κs. search rules) (λ c. search rules) (λ c κs. search rules) (λ c. search rules)
-    (λ c κs. search rules) (λ c. search rules) (λ c. search rules) (λ c κs. search rules) returns (λ c. search rules) returns_2
+    (λ c κs. search rules) (λ c. search rules) (λ c κs. search rules) returns (λ c. search rules) returns_2
     (λ c. search rules) returns_3 (λ c. search rules) returns_4 (λ c. search rules) returns_5)

@@ -23,5 +23,5 @@ returns_2 c =
 pub put_size_spec : {M : Type 1} → statement M
 put_size_spec =
     tie.close
-    (tie.spec (λ c. search rules) (λ c κs. search rules) (λ c. search rules) returns (λ c. search rules) (λ c κs. search rules)
+    (tie.spec (λ c κs. search rules) (λ c. search rules) returns (λ c κs. search rules)
     (λ c κs. search rules) (λ c. search rules) returns_2)

@@ -22,5 +22,5 @@ returns_2 c =
 pub put_commands_spec : {M : Type 1} → statement M
 put_commands_spec =
     tie.close
-    (tie.spec (λ c. search rules) (λ c κs. search rules) (λ c. search rules) (λ c κs. search rules) (λ c. search rules) returns
+    (tie.spec (λ c κs. search rules) (λ c κs. search rules) (λ c. search rules) returns
     (λ c. search rules) returns_2)

@@ -28,5 +28,5 @@ returns_3 c =
 pub put_progress_spec : {M : Type 1} → statement M
 put_progress_spec =
     tie.close
-    (tie.spec returns returns_2 (λ c κs. search rules) (λ c. search rules) (λ c κs. search rules) (λ c κs. search rules)
+    (tie.spec returns returns_2 (λ c κs. search rules) (λ c κs. search rules) (λ c κs. search rules)
     (λ c. search rules) returns_3)

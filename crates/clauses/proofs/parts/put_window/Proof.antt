@@ -10,7 +10,7 @@ pub put_window_spec : {M : Type 1} → statement M
 unfolding window_text
 put_window_spec =
     tie.close
-    (tie.spec (λ c. search rules) (λ c κs. search rules) (λ c. search rules) (λ c κs. search rules) (λ c. search rules)
+    (tie.spec (λ c κs. search rules) (λ c κs. search rules) (λ c. search rules)
     (λ c. let text = c.before.before in simp (eq-eqb _ _ text.if-window-eq0.true) text.put_text.ensures)
     (λ c. search rules)
-    (λ c. let text = c.before.before in simp (ne_eqb _ _ text.before.before.before.if1.false) text.put-text2.ensures))
+    (λ c. let text = c.before.before in simp (ne_eqb _ _ text.if-window-eq0.false) text.put_text-else-window-eq0.ensures))
