@@ -141,5 +141,6 @@ pub one_dword : (w : Windows) (r : ℕ) (rest : List ℕ) (level : Level) → (t
     → access_of r ≡ no_use
     → nested r level ≡ false → 0 < length rest → wrong_of w r rest level ≡ cond (bit_wrong r rest 0) 2560 0
 unfolding length_right length_of content tested bit_wrong allowed_at allowed_of in_group high_wrong value_wrong_of value_wrong access_at range_wrong
+one_dword w r [] level t rule uses up h = elim h [ ]
 one_dword w r (x ∷ rest) level t rule uses up h =
     whole w r (x ∷ rest) level (rw t) 1 (rw t) h ∙ rw (up, header_no_high r (x ∷ []) 0, header_no_high r (x ∷ rest) 0, rule, uses)

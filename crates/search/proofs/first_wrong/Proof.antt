@@ -36,10 +36,10 @@ abbrev decreases_groups : tie.decreases-groups
 decreases_groups what w row command masks formats len own size first₀ first = len - first
 
 abbrev start : tie.At-groups invariant_loop decreases_loop invariant_groups decreases_groups → tie.Start invariant_loop decreases_loop invariant_groups decreases_groups
-start c = c.before.before.before.before.before.before
+start c = c.before.before.before.before.before
 
 abbrev entry : tie.After-wrong_at invariant_loop decreases_loop invariant_groups decreases_groups → tie.Start invariant_loop decreases_loop invariant_groups decreases_groups
-entry c = c.before.before.before
+entry c = c.before.before
 
 abbrev group : tie.At-loop-j invariant_loop decreases_loop invariant_groups decreases_groups → tie.At-groups invariant_loop decreases_loop invariant_groups decreases_groups
 group c = c.before.before
@@ -62,7 +62,7 @@ seen : (c : tie.After-wrong_at-in-loop-j invariant_loop decreases_loop invariant
 seen c =
     let g = group (dword c) in
     wrong_at_spot _ _ _ (start g).args.command.now _ _
-    (rw (← (sized g).group_size-size.ensures) (in_group_lem _ _ _ g.groups.inv.0 g.groups.inv.2 c.loop-j-test.true))
+    (rw (← (sized g).group_size-size.ensures) (in_group_lem _ _ _ g.groups.invariant.0 g.groups.invariant.2 c.loop-j-test.true))
     ∙ sym c.wrong_at-in-loop-j.ensures
 
 -- the masks of the row are lent
@@ -71,10 +71,10 @@ own_masks : (s : tie.Start invariant_loop decreases_loop invariant_groups decrea
 own_masks s = ap (λ (l : List (List ℕ)). get_or l s.args.row []) s.requires.2
 
 -- a group that is reached has dwords
-positive : (c : tie.At-loop-j invariant_loop decreases_loop invariant_groups decreases_groups) → 0 < (sized (group c)).group-size.result
+positive : (c : tie.At-loop-j invariant_loop decreases_loop invariant_groups decreases_groups) → 0 < (sized (group c)).group_size-size.result
 positive c =
     let s = start (group c) in
-    some_size _ (length s.args.command.now) (λ e. groupless _ _ s.pre.1 (sym (sized (group c)).group-size.ensures ∙ e)) (omega arith)
+    some_size _ (length s.args.command.now) (λ e. groupless _ _ s.requires.1 (sym (sized (group c)).group_size-size.ensures ∙ e)) (omega arith)
 
 -- a dword that is reached is one of the command's
 inside : (c : tie.Else-row-len invariant_loop decreases_loop invariant_groups decreases_groups)
@@ -86,12 +86,12 @@ inside c =
 
 header_requires : tie.Need-wrong_at-requires invariant_loop decreases_loop invariant_groups decreases_groups
 header_requires c κs =
-    let s = c.before.before in
+    let s = c.before in
     (s.requires.1.header, search rules, s.requires.0, own_masks s, s.requires.3)
 
 groups_holds : tie.Need-groups-init invariant_loop decreases_loop invariant_groups decreases_groups
 groups_holds c =
-    (search rules, search rules, zero-mod _, left_more (left_all _ _) (entry c.before.before).pre.1.header (header_seen c.before.before ∙ c.if-wrong_at.false))
+    (search rules, search rules, zero-mod _, left_more (left_all _ _) (entry c.before.before).requires.1.header (header_seen c.before.before ∙ c.if-wrong_at.false))
 
 dword_requires : tie.Need-wrong_at-requires-in-loop-j invariant_loop decreases_loop invariant_groups decreases_groups
 dword_requires c κs =
@@ -102,7 +102,7 @@ dword_requires c κs =
 loop_again : tie.Need-loop-j-preserved invariant_loop decreases_loop invariant_groups decreases_groups
 loop_again c =
     let here = inside c.before.before in
-    let passed = left_more (dword c.before).loop.inv.2 here (seen c.before ∙ c.if-wrong_at-2.false) in
+    let passed = left_more (dword c.before).loop-j.invariant.2 here (seen c.before ∙ c.if-wrong_at-2.false) in
     (omega arith, omega (arith, here), left_at (add_assoc _ _ 1) passed)
 
 groups_again : tie.Need-groups-preserved invariant_loop decreases_loop invariant_groups decreases_groups
@@ -121,7 +121,7 @@ past_end : tie.Need-returns-then-row-len invariant_loop decreases_loop invariant
 past_end c = left_none c.loop-j.invariant.2 (leb-true _ _ (and_right (eqb (start (group c.before.before)).args.row store_row) _ c.if-row-len.true))
 
 found : tie.Need-returns-then-wrong_at-2 invariant_loop decreases_loop invariant_groups decreases_groups
-found c = left_found (dword c.before).loop.inv.2 (inside c.before.before) (seen c.before ∙ c.if-wrong_at-2.true)
+found c = left_found (dword c.before).loop-j.invariant.2 (inside c.before.before) (seen c.before ∙ c.if-wrong_at-2.true)
 
 pub first_wrong_spec : {M : Type 1} → statement M
 first_wrong_spec =
@@ -129,7 +129,7 @@ first_wrong_spec =
     (tie.spec invariant_loop decreases_loop invariant_groups decreases_groups
     -- the header
     (λ c. search rules) (λ c. search rules) header_requires
-    (λ c. left_found (left_all _ _) (entry c.before).pre.1.header (header_seen c.before ∙ c.if-wrong_at.true)) (λ c κs. search rules)
+    (λ c. left_found (left_all _ _) (entry c.before).requires.1.header (header_seen c.before ∙ c.if-wrong_at.true)) (λ c κs. search rules)
     -- the groups, and the dwords of each
     groups_holds (λ c. (search rules, omega arith, left_at (sym (add-zero _)) c.groups.invariant.3)) (λ c. search rules) (λ c. search rules)
     dword_requires (λ c. search rules) (λ c. search rules) loop_again

@@ -21,7 +21,7 @@ loop_holds : tie.Need-loop-k-init invariant_loop decreases_loop
 loop_holds c = (search rules, from_the_start _ _)
 
 abbrev turn : tie.After-allowed invariant_loop decreases_loop → tie.At-loop-k invariant_loop decreases_loop
-turn c = c.before.before.before.before.before
+turn c = c.before.before.before.before.before.before
 
 seen : (c : tie.After-allowed invariant_loop decreases_loop)
     → let l = turn c in

@@ -6,8 +6,8 @@ use native.Mathlib.Omega.{arith}
 use borrow.Author.Tests.{ne_eqb}
 use Rattle.rules.specs.Words.{in_group}
 use borrow.Author.Rules.{rules}
-use Rattle.structures.proofs.in_group_lem.Statement.{statement}
-use Rattle.structures.proofs.in_group_lem.Tie as tie
+use Rattle.structures.proofs.in_group.Statement.{statement}
+use Rattle.structures.proofs.in_group.Tie as tie
 
 leading : tie.Need-returns-then-k-eq0
 unfolding in_group

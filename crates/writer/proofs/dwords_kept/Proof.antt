@@ -18,7 +18,7 @@ start c = c.before.before.before
 
 -- what stands in the buffer
 held : (c : tie.After-put) → let a = (start c).args in
-    take (1 + length a.dwords.now) c.put.new.1.1.0 ≡ a.header ∷ a.dwords.now
+    take (1 + length a.dwords.now) c.put.new.into ≡ a.header ∷ a.dwords.now
 held c =
     let a = (start c).args in
     ap (take (1 + length a.dwords.now)) c.put.ensures ∙ stands_first (a.header ∷ a.dwords.now) _ (1 + length a.dwords.now) (omega arith)
@@ -27,7 +27,7 @@ abbrev put_first : tie.After-command-3-1 → tie.After-put
 put_first c = c.before.before.before
 
 long : (c : tie.After-command-3-1) → let a = (start (put_first c)).args in
-    1 + length a.dwords.now ≡ length (take (1 + length a.dwords.now) (put_first c).put.new.1.1.0)
+    1 + length a.dwords.now ≡ length (take (1 + length a.dwords.now) (put_first c).put.new.into)
 long c = sym (ap length (held (put_first c)) ∙ omega arith)
 
 returns : tie.Need-returns
@@ -39,13 +39,13 @@ returns c =
     ∙ ap (λ (n : ℕ). not (some_from (bit_wrong a.row (a.header ∷ a.dwords.now)) 1 n)) (omega arith)
 
 few : (c : tie.After-bits_kept-arg-1) → let a = (start (put_first c.before)).args in
-    length a.dwords.now ≡ 0 → length (take (1 + length a.dwords.now) (put_first c.before).put.new.1.1.0) ≤ 1
+    length a.dwords.now ≡ 0 → length (take (1 + length a.dwords.now) (put_first c.before).put.new.into) ≤ 1
 few c e = omega (arith, long c.before)
 
 bits_kept_requires : tie.Need-bits_kept-requires
 bits_kept_requires c κs =
     let s = start (put_first c.before) in
-    (s.pre.0, (λ z. few c (s.pre.2 z)), ap (λ (t : List (List ℕ)). get_or t s.args.row []) c.mask_table-masks.ensures)
+    (s.requires.0, (λ z. few c (s.requires.2 z)), ap (λ (t : List (List ℕ)). get_or t s.args.row []) c.mask_table-masks.ensures)
 
 pub dwords_kept_spec : {M : Type 1} → statement M
 dwords_kept_spec =

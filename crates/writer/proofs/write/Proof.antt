@@ -22,10 +22,10 @@ abbrev d : tie.After-judged → Draft
 d c = let a = (start c).args in draft a.row a.free a.dwords.now (length a.batch.now) a.first
 
 -- a refusal
-abbrev judged : tie.In-Fails-2 → tie.After-judged
+abbrev judged : tie.In-Fails → tie.After-judged
 judged c = c.before
 
-refusal : (c : tie.In-Fails-2) → write_verdict (d (judged c)) ≡ Fails c.in-Fails.fault
+refusal : (c : tie.In-Fails) → write_verdict (d (judged c)) ≡ Fails c.in-Fails.fault
 refusal c = sym (judged c).judged.ensures ∙ c.in-Fails.is
 
 -- and none

@@ -9,5 +9,5 @@ use Rattle.plain_shared.proofs.heads.high_right.Tie as tie
 pub high_right_spec : {M : Type 1} → statement M
 high_right_spec =
     tie.close
-    (tie.spec (λ c κs. search rules) (λ c. rw (not-true c.args.used c.if-not-used.true))
-    (λ c. let used = c.before in rw (not-false used.args.used used.if-not-used.false, not-not) c.canonical.ensures))
+    (tie.spec (λ c κs. search rules) (λ c. rw (c.if-not-used.true))
+    (λ c. let used = c.before in rw (used.if-not-used.false, not-not) c.canonical.ensures))
