@@ -31,12 +31,12 @@ seen c = bit_at _ _ _ _ c.dword.ensures c.in_group.ensures.0 c.allowed.ensures
 returns : tie.Need-returns-then-not-allowed invariant_loop decreases_loop
 returns c =
     let l = turn c.before in
-    sym (l.loop-k.invariant.1 ∙ stops_here _ _ _ (search rules) (seen c.before ∙ c.if-not-allowed.true))
+    sym (l.loop-k.invariant.1 ∙ stops_here _ _ _ (search rules) (seen c.before ∙ c.if-not-allowed.true-raw))
 
 loop_again : tie.Need-loop-k-preserved invariant_loop decreases_loop
 loop_again c =
     let l = turn c.before in
-    (search rules, l.loop-k.invariant.1 ∙ goes_on _ _ _ (search rules) (seen c.before ∙ c.if-not-allowed.false))
+    (search rules, l.loop-k.invariant.1 ∙ goes_on _ _ _ (search rules) (seen c.before ∙ c.if-not-allowed.false-raw))
 
 returns_2 : tie.Need-returns invariant_loop decreases_loop
 returns_2 c = sym (c.loop-k.invariant.1 ∙ comes_to_the_end _ _ _ (search rules))

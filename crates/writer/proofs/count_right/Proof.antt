@@ -28,7 +28,7 @@ unfolding length_of
 bare c =
     let asked = c.before.before in
     let a = asked.args in
-    sym (bare_counted (the_row a.row).total (group_size a.row) a.free a.n (sym asked.length_of-bare.ensures ∙ eqb-true _ 1 c.if-bare.true) (search rules))
+    sym (bare_counted (the_row a.row).total (group_size a.row) a.free a.n (sym asked.length_of-bare.ensures ∙ eqb-true _ 1 c.if-bare.true-raw) (search rules))
 
 many : tie.Need-returns-then-n-gt256
 many c = let s = c.before.before.before.before in sym (many_counted s.args.row s.args.free s.args.n s.requires (search rules))
@@ -42,7 +42,7 @@ by_field c =
     let header = a.free / 0x200000 % 2 * 0x200000 + (a.n - 1) in
     c.length_right.ensures
     ∙ field_counted a.row a.free a.n header asked.requires
-    (λ z. eqb-false _ 1 with_field.if-bare.false (asked.length_of-bare.ensures ∙ z)) (field_told _ a.n (search rules) (search rules))
+    (λ z. eqb-false _ 1 with_field.if-bare.false-raw (asked.length_of-bare.ensures ∙ z)) (field_told _ a.n (search rules) (search rules))
     (switch_told _ a.n (mod-lt _ (lit< tt)) (search rules))
 
 pub count_right_spec : {M : Type 1} → statement M
