@@ -5,7 +5,7 @@ use Rattle.causes.proofs.cause.Statement.{statement}
 use Rattle.causes.proofs.cause.Tie as tie
 
 returns : tie.Need-returns
-returns c = rw (c.detail-at.ensures, c.before.position.ensures)
+returns c = rw (c.detail_at.ensures, c.position-at.ensures)
 
 pub cause_spec : {M : Type 1} → statement M
 cause_spec =

@@ -7,28 +7,28 @@ use Rattle.causes.specs.Causes.{detail_at}
 use Rattle.causes.proofs.detail_at.Statement.{statement}
 use Rattle.causes.proofs.detail_at.Tie as tie
 
-returns : tie.Need-returns
+returns : tie.Need-returns-then-answer-eq13
 unfolding detail_at
 returns c =
     let place = c.before in
-    rw (eq-eqb _ _ place.before.before.if1.true, ← place.distance.ensures) c.reach-at.ensures
+    rw (eq-eqb _ _ place.if-answer-eq13.true, ← place.distance.ensures) c.reach_at.ensures
 
-returns_2 : tie.Need-returns-2
+returns_2 : tie.Need-returns-then-of_command
 unfolding detail_at
 returns_2 c =
     let header = c.before in
     let test = header.before in
     rw (
-      ne_eqb _ _ test.before.before.if1.false,
-      ← test.before.of_command_lem.ensures,
-      test.if2.true,
+      ne_eqb _ _ test.if-answer-eq13.false,
+      ← test.of_command.ensures,
+      test.if-of_command.true,
       ← header.dword.ensures,
       ← c.row_of.ensures,
     )
 
-returns_3 : tie.Need-returns-3
+returns_3 : tie.Need-returns
 unfolding detail_at
-returns_3 c = rw (ne_eqb _ _ c.before.before.if1.false, ← c.before.of_command_lem.ensures, c.if2.false)
+returns_3 c = rw (ne_eqb _ _ c.if-answer-eq13.false, ← c.of_command.ensures, c.if-of_command.false)
 
 pub detail_at_spec : {M : Type 1} → statement M
 detail_at_spec =

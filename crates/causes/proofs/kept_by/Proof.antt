@@ -6,15 +6,15 @@ use Rattle.causes.specs.Causes.{kept_by}
 use Rattle.causes.proofs.kept_by.Statement.{statement}
 use Rattle.causes.proofs.kept_by.Tie as tie
 
-returns : tie.Need-returns
+returns : tie.Need-returns-then-command-eq0
 unfolding kept_by
 returns c =
     let test = c.before in
-    simp (eq-eqb _ _ (rw test.before.before.command.ensures at test.if1.true)) c.behind.ensures
+    simp (eq-eqb _ _ (rw test.command.ensures at test.if-command-eq0.true)) c.behind.ensures
 
-returns_2 : tie.Need-returns-2
+returns_2 : tie.Need-returns-else-command-eq0
 unfolding kept_by
-returns_2 c = simp (ne_eqb _ _ (rw c.before.before.command.ensures at c.if1.false))
+returns_2 c = simp (ne_eqb _ _ (rw c.command.ensures at c.if-command-eq0.false))
 
 pub kept_by_spec : {M : Type 1} → statement M
 kept_by_spec = tie.close (tie.spec (λ c κs. search rules) (λ c κs. search rules) returns returns_2)

@@ -11,7 +11,7 @@ unfolding reach_with access_at
 returns c =
     let address = c.before in
     let access = address.before in
-    rw (c.reach_of.ensures, address.address-at.ensures, access.Access-of.ensures, access.before.spot.ensures)
+    rw (c.reach_of.ensures, address.address_at.ensures, access.access_of-access.ensures, access.spot.ensures)
 
 pub reach_spec : {M : Type 1} → statement M
 reach_spec =

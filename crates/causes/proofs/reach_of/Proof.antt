@@ -7,4 +7,4 @@ use Rattle.causes.proofs.reach_of.Tie as tie
 pub reach_of_spec : {M : Type 1} → statement M
 reach_of_spec =
     tie.close
-    (tie.spec (λ c. search rules) (λ c. search rules) (λ c. search rules) (λ c. search rules) (λ c. rw c.before.access.given.1) (λ c. search rules))
+    (tie.spec (λ c. search rules) (λ c. search rules) (λ c. search rules) (λ c. search rules) (λ c. rw c.in-Reaches.is) (λ c. search rules))

@@ -8,20 +8,20 @@ use Rattle.rules.specs.Words.{in_group}
 use Rattle.causes.proofs.spot.Statement.{statement}
 use Rattle.causes.proofs.spot.Tie as tie
 
-returns : tie.Need-returns
+returns : tie.Need-returns-then-k-eq0
 unfolding in_group
-returns c = rw c.if1.true
+returns c = rw c.if-k-eq0.true
 
-returns_2 : tie.Need-returns-2
+returns_2 : tie.Need-returns-then-size-eq0
 unfolding in_group
-returns_2 c = rw (ne_eqb _ _ c.before.if1.false, ← c.before.before.group-size.ensures, c.if2.true, mod-zero) (search rules)
+returns_2 c = rw (ne_eqb _ _ c.if-k-eq0.false, ← c.group_size-size.ensures, c.if-size-eq0.true, mod-zero) (search rules)
 
-add_result : tie.Need-overflow-add-result
-add_result c = let l = mod-le (c.before.before.before.args.k - 1) c.before.before.group-size.result in search rules
+add_result : tie.Need-overflow_add-result
+add_result c = let l = mod-le (c.args.k - 1) c.group_size-size.result in search rules
 
-returns_3 : tie.Need-returns-3
+returns_3 : tie.Need-returns
 unfolding in_group
-returns_3 c = rw (ne_eqb _ _ c.before.if1.false, ← c.before.before.group-size.ensures)
+returns_3 c = rw (ne_eqb _ _ c.if-k-eq0.false, ← c.group_size-size.ensures)
 
 pub spot_spec : {M : Type 1} → statement M
 spot_spec =

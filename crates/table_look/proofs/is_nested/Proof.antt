@@ -8,5 +8,5 @@ use Rattle.table_look.proofs.is_nested.Tie as tie
 pub is_nested_spec : {M : Type 1} → statement M
 is_nested_spec =
     tie.close
-    (tie.spec (λ c. not_nested _ c.before.args.level c.if1.true) (λ c. search rules) (λ c. search rules) (λ c. rw c.enum_told.given.1)
-    (λ c. rw (c.enum-told2.given.1, c.before.before.if1.false)))
+    (tie.spec (λ c. not_nested _ c.args.level c.if-row-ne-START_ROW.true) (λ c. search rules) (λ c. search rules) (λ c. rw c.in-First.is)
+    (λ c. rw (c.in-Second.is, c.if-row-ne-START_ROW.false)))

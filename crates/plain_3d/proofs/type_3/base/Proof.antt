@@ -12,22 +12,22 @@ use Rattle.plain_3d.proofs.Bases.{bit_says, value_says, usual_says}
 use Rattle.plain_3d.proofs.type_3.base.Statement.{statement}
 use Rattle.plain_3d.proofs.type_3.base.Tie as tie
 
-fits : (c : tie.Else1) → 16 ≤ length c.before.before.before.args.rest.now
-fits c = head_fits _ _ c.before.whole-header.ensures c.if1.false
+fits : (c : tie.Else-head-ne-NOTHING) → 16 ≤ length c.args.rest.now
+fits c = head_fits _ _ c.whole_header-head.ensures c.if-head-ne-NOTHING.false
 
 pub base_spec : {M : Type 1} → statement M
 base_spec =
     tie.close
     (tie.spec (λ c κs. search rules)
-    (λ c. whole_refuses base_row_lem no_windows _ First c.before.whole-header.ensures c.before.before.before.requires.1 c.if1.true)
+    (λ c. whole_refuses base_row_lem no_windows _ First c.whole_header-head.ensures c.requires.1 c.if-head-ne-NOTHING.true)
     (λ c κs. fits c)
-    (λ c. let head = c.before.before in usual_says _ (sym c.before.base-usual.ensures ∙ c.if2.true) head.before.whole-header.ensures head.if1.false)
-    (λ c κs. let head = c.before.before in (fits head, head_is _ _ head.before.whole-header.ensures head.if1.false))
+    (λ c. let head = c.before.before in usual_says _ (sym c.base_usual.ensures ∙ c.if-base_usual.true) head.whole_header-head.ensures head.if-head-ne-NOTHING.false)
+    (λ c κs. let head = c.before.before in (fits head, head_is _ _ head.whole_header-head.ensures head.if-head-ne-NOTHING.false))
     (λ c.
     let head = c.before.before.before.before in
-    bit_says _ head.before.whole-header.ensures head.if1.false c.before.base_bits_lem.ensures c.if3.true)
+    bit_says _ head.whole_header-head.ensures head.if-head-ne-NOTHING.false c.base_bits-bit.ensures c.if-bit-ne-NOTHING.true)
     (λ c κs. fits c.before.before.before.before)
     (λ c.
     let bits = c.before.before in
     let head = bits.before.before.before in
-    value_says _ head.before.whole-header.ensures head.if1.false bits.base_bits_lem.ensures c.before.if3.false c.base_values_lem.ensures))
+    value_says _ head.whole_header-head.ensures head.if-head-ne-NOTHING.false bits.base_bits-bit.ensures c.if-bit-ne-NOTHING.false c.base_values.ensures))

@@ -6,4 +6,4 @@ use Rattle.plain_3d.proofs.type_3.base_right.Statement.{statement}
 use Rattle.plain_3d.proofs.type_3.base_right.Tie as tie
 
 pub base_right_spec : {M : Type 1} → statement M
-base_right_spec = tie.close (tie.spec (λ c κs. search rules) (λ c. rw div-one c.high_right_lem.ensures))
+base_right_spec = tie.close (tie.spec (λ c κs. search rules) (λ c. rw div-one c.high_right.ensures))

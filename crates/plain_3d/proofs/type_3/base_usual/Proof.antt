@@ -12,16 +12,16 @@ use Rattle.plain_3d.proofs.type_3.base_usual.Statement.{statement}
 use Rattle.plain_3d.proofs.type_3.base_usual.Tie as tie
 
 -- the place before all tests, from each place behind one
-abbrev from_1 : tie.After-four-keep → tie.Start
+abbrev from_1 : tie.After-four_keep → tie.Start
 from_1 c = c.before.before.before.before.before.before.before.before
 
-abbrev kept_1 : tie.After-four-keep2 → tie.Else1
+abbrev kept_1 : tie.After-four_keep-2 → tie.Else-not-allowed-four_keep
 kept_1 c = c.before.before.before.before.before.before.before
 
-abbrev from_2 : tie.After-four-keep2 → tie.Start
+abbrev from_2 : tie.After-four_keep-2 → tie.Start
 from_2 c = from_1 (kept_1 c).before
 
-abbrev kept_2 : tie.After-allowed3 → tie.Else2
+abbrev kept_2 : tie.After-allowed-3 → tie.Else-not-allowed-four_keep-2
 kept_2 c = c.before.before
 
 abbrev Decides : tie.Start → Bool → Type 0
@@ -31,34 +31,34 @@ Decides s answer = answer ≡ usual_base s.args.rest.now
 both : {x y a b : Bool} → x ≡ a → y ≡ b → (x && y) ≡ (a && b)
 both e f = rw (e, f)
 
-lows : (c : tie.After-four-keep) → let first = c.before.before.before.before.before.allowed in
-    (first.result && c.four-keep.result) ≡ all_keep (low_dwords (from_1 c).args.rest.now) 0xFFFFF7F1
+lows : (c : tie.After-four_keep) → let first = c.allowed in
+    (first.result && c.four_keep.result) ≡ all_keep (low_dwords (from_1 c).args.rest.now) 0xFFFFF7F1
 unfolding all_keep
-lows c = both c.before.before.before.before.before.allowed.ensures c.four-keep.ensures
+lows c = both c.allowed.ensures c.four_keep.ensures
 
-highs : (c : tie.After-four-keep2) → let first = c.before.before.before.before.before.allowed2 in
-    (first.result && c.four-keep2.result) ≡ all_keep (high_dwords (from_2 c).args.rest.now) 0x00007FFF
+highs : (c : tie.After-four_keep-2) → let first = c.allowed-2 in
+    (first.result && c.four_keep-2.result) ≡ all_keep (high_dwords (from_2 c).args.rest.now) 0x00007FFF
 unfolding all_keep
-highs c = both c.before.before.before.before.before.allowed2.ensures c.four-keep2.ensures
+highs c = both c.allowed-2.ensures c.four_keep-2.ensures
 
-low_kept : (c : tie.Else1) → let d = (from_1 c.before).args.rest.now in
+low_kept : (c : tie.Else-not-allowed-four_keep) → let d = (from_1 c.before).args.rest.now in
     Decides (from_1 c.before) (all_keep (high_dwords d) 0x00007FFF && (allowed (get_or d 3 0) 0x007F0000 && all_keep (last_dwords d) 0xFFFFF001))
-low_kept c = holds _ (sym (lows c.before) ∙ not-false _ c.if1.false) refl
+low_kept c = holds _ (sym (lows c.before) ∙ c.if-not-allowed-four_keep.false) refl
 
-high_kept_lem : (c : tie.Else2) → let d = (from_2 c.before).args.rest.now in
+high_kept_lem : (c : tie.Else-not-allowed-four_keep-2) → let d = (from_2 c.before).args.rest.now in
     Decides (from_2 c.before) (allowed (get_or d 3 0) 0x007F0000 && all_keep (last_dwords d) 0xFFFFF001)
-high_kept_lem c = holds _ (sym (highs c.before) ∙ not-false _ c.if2.false) (low_kept (kept_1 c.before))
+high_kept_lem c = holds _ (sym (highs c.before) ∙ c.if-not-allowed-four_keep-2.false) (low_kept (kept_1 c.before))
 
 pub base_usual_spec : {M : Type 1} → statement M
 base_usual_spec =
     tie.close
     (tie.spec (λ c. search rules) (λ c κs. search rules) (λ c. search rules) (λ c. search rules) (λ c. search rules) (λ c. search rules) (λ c κs. search rules)
-    (λ c. fails _ (sym (lows c.before) ∙ not-true _ c.if1.true) refl)
+    (λ c. fails _ (sym (lows c.before) ∙ c.if-not-allowed-four_keep.true) refl)
     (λ c. search rules) (λ c κs. search rules) (λ c. search rules) (λ c. search rules) (λ c. search rules) (λ c. search rules) (λ c κs. search rules)
-    (λ c. fails _ (sym (highs c.before) ∙ not-true _ c.if2.true) (low_kept (kept_1 c.before)))
+    (λ c. fails _ (sym (highs c.before) ∙ c.if-not-allowed-four_keep-2.true) (low_kept (kept_1 c.before)))
     (λ c. search rules) (λ c κs. search rules)
-    (λ c. fails _ (sym c.before.allowed3.ensures ∙ not-true _ c.if3.true) (high_kept_lem (kept_2 c.before)))
+    (λ c. fails _ (sym c.allowed-3.ensures ∙ c.if-not-allowed.true) (high_kept_lem (kept_2 c.before)))
     (λ c. search rules) (λ c. search rules) (λ c. search rules) (λ c. search rules) (λ c κs. search rules)
     (λ c.
     let test = c.before.before.before.before.before.before in
-    c.four-keep3.ensures ∙ holds _ (sym test.allowed3.ensures ∙ not-false _ c.before.before.before.before.before.if3.false) (high_kept_lem (kept_2 test))))
+    c.four_keep-3.ensures ∙ holds _ (sym test.allowed-3.ensures ∙ c.if-not-allowed.false) (high_kept_lem (kept_2 test))))

@@ -18,41 +18,41 @@ abbrev Left : tie.Start → ℕ → Type 0
 Left s n = let d = s.args.rest.now in answered (drop n (value_tests d)) 0 ≡ first_coded ValueBroken (value_wrong base_row d) 0 16
 
 -- the place before all tests, from each place behind one
-abbrev from_1 : tie.Else1 → tie.Start
+abbrev from_1 : tie.Else-not-base_right → tie.Start
 from_1 c = c.before.before.before.before.before
 
-abbrev from_2 : tie.Else2 → tie.Start
+abbrev from_2 : tie.Else-not-base_right-2 → tie.Start
 from_2 c = from_1 c.before.before.before.before
 
-abbrev from_3 : tie.Else3 → tie.Start
+abbrev from_3 : tie.Else-not-base_right-3 → tie.Start
 from_3 c = from_2 c.before.before.before.before
 
-abbrev from_4 : tie.Else4 → tie.Start
+abbrev from_4 : tie.Else-not-base_right-4 → tie.Start
 from_4 c = from_3 c.before.before.before.before
 
-general : (c : tie.Else1) → Left (from_1 c) 1
-general c = passes 3074 _ (asked c.before.base-right.ensures c.if1.false) (values_tested _)
+general : (c : tie.Else-not-base_right) → Left (from_1 c) 1
+general c = passes 3074 _ (asked c.base_right.ensures c.if-not-base_right.false-raw) (values_tested _)
 
-surface : (c : tie.Else2) → Left (from_2 c) 2
-surface c = passes 3077 _ (asked c.before.base-right2.ensures c.if2.false) (general c.before.before.before.before)
+surface : (c : tie.Else-not-base_right-2) → Left (from_2 c) 2
+surface c = passes 3077 _ (asked c.base_right-2.ensures c.if-not-base_right-2.false-raw) (general c.before.before.before.before)
 
-dynamic : (c : tie.Else3) → Left (from_3 c) 3
-dynamic c = passes 3079 _ (asked c.before.base-right3.ensures c.if3.false) (surface c.before.before.before.before)
+dynamic : (c : tie.Else-not-base_right-3) → Left (from_3 c) 3
+dynamic c = passes 3079 _ (asked c.base_right-3.ensures c.if-not-base_right-3.false-raw) (surface c.before.before.before.before)
 
-indirect : (c : tie.Else4) → Left (from_4 c) 4
-indirect c = passes 3081 _ (asked c.before.base-right4.ensures c.if4.false) (dynamic c.before.before.before.before)
+indirect : (c : tie.Else-not-base_right-4) → Left (from_4 c) 4
+indirect c = passes 3081 _ (asked c.base_right-4.ensures c.if-not-base_right-4.false-raw) (dynamic c.before.before.before.before)
 
 pub base_values_spec : {M : Type 1} → statement M
 base_values_spec =
     tie.close
     (tie.spec (λ c. search rules) (λ c. search rules) (λ c κs. search rules) (λ c κs. search rules)
-    (λ c. c.at.ensures ∙ refuses 3074 _ (asked c.before.before.base-right.ensures c.before.if1.true) (values_tested _))
+    (λ c. c.at.ensures ∙ refuses 3074 _ (asked c.base_right.ensures c.if-not-base_right.true-raw) (values_tested _))
     (λ c. search rules) (λ c. search rules) (λ c κs. search rules) (λ c κs. search rules)
-    (λ c. let test = c.before.before in c.at2.ensures ∙ refuses 3077 _ (asked test.base-right2.ensures c.before.if2.true) (general test.before.before.before))
+    (λ c. let test = c.before.before in c.at-then-not-base_right-2.ensures ∙ refuses 3077 _ (asked test.base_right-2.ensures c.if-not-base_right-2.true-raw) (general test.before.before.before))
     (λ c. search rules) (λ c. search rules) (λ c κs. search rules) (λ c κs. search rules)
-    (λ c. let test = c.before.before in c.at3.ensures ∙ refuses 3079 _ (asked test.base-right3.ensures c.before.if3.true) (surface test.before.before.before))
+    (λ c. let test = c.before.before in c.at-then-not-base_right-3.ensures ∙ refuses 3079 _ (asked test.base_right-3.ensures c.if-not-base_right-3.true-raw) (surface test.before.before.before))
     (λ c. search rules) (λ c. search rules) (λ c κs. search rules) (λ c κs. search rules)
-    (λ c. let test = c.before.before in c.at4.ensures ∙ refuses 3081 _ (asked test.base-right4.ensures c.before.if4.true) (dynamic test.before.before.before))
+    (λ c. let test = c.before.before in c.at-then-not-base_right-4.ensures ∙ refuses 3081 _ (asked test.base_right-4.ensures c.if-not-base_right-4.true-raw) (dynamic test.before.before.before))
     (λ c. search rules) (λ c. search rules) (λ c κs. search rules) (λ c κs. search rules)
-    (λ c. let test = c.before.before in c.at5.ensures ∙ refuses 3083 _ (asked test.base-right5.ensures c.before.if5.true) (indirect test.before.before.before))
-    (λ c. let test = c.before in passes 3083 _ (asked test.base-right5.ensures c.if5.false) (indirect test.before.before.before)))
+    (λ c. let test = c.before.before in c.at-then-not-base_right-5.ensures ∙ refuses 3083 _ (asked test.base_right-5.ensures c.if-not-base_right-5.true-raw) (indirect test.before.before.before))
+    (λ c. let test = c.before in passes 3083 _ (asked test.base_right-5.ensures c.if-not-base_right-5.false-raw) (indirect test.before.before.before)))

@@ -18,4 +18,4 @@ blend_row_lem = points (lit≤ tt) refl refl refl refl refl
 pub blend_spec : {M : Type 1} → statement M
 blend_spec =
     tie.close
-    (tie.spec (λ c κs. (c.before.requires.0, refl)) (λ c. pointer_decides blend_row_lem no_windows _ c.before.before.requires.1 c.pointer.ensures))
+    (tie.spec (λ c κs. (c.requires.0, refl)) (λ c. pointer_decides blend_row_lem no_windows _ c.requires.1 c.pointer.ensures))

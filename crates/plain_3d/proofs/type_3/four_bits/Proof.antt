@@ -11,22 +11,22 @@ use Rattle.plain_shared.proofs.Tests.{asked}
 use Rattle.plain_3d.proofs.type_3.four_bits.Statement.{statement}
 use Rattle.plain_3d.proofs.type_3.four_bits.Tie as tie
 
-abbrev start : tie.Else1 → tie.Start
+abbrev start : tie.Else-not-allowed → tie.Start
 start c = c.before.before.before.before
 
-first : tie.Need-returns
+first : tie.Need-returns-then-not-allowed
 unfolding coded number_of stray_from
-first c = rw (asked c.before.before.allowed.ensures c.before.if1.true) (omega arith)
+first c = rw (asked c.allowed.ensures c.if-not-allowed.true-raw) (omega arith)
 
-second : tie.Need-returns-2
+second : tie.Need-returns-then-not-allowed-2
 unfolding coded number_of stray_from
 second c =
     let called = c.before.before in
     let first_kept = called.before.before in
-    rw (asked first_kept.before.allowed.ensures first_kept.if1.false, asked called.allowed2.ensures c.before.if2.true)
+    rw (asked first_kept.allowed.ensures first_kept.if-not-allowed.false-raw, asked called.allowed-2.ensures c.if-not-allowed-2.true-raw)
     (omega arith)
 
-third : tie.Need-returns-3
+third : tie.Need-returns-then-not-allowed-3
 unfolding coded number_of stray_from
 third c =
     let called = c.before.before in
@@ -35,13 +35,13 @@ third c =
     let k = (start first_kept).args.k in
     let p : k + 1 + 1 ≡ k + 2 = omega arith in
     rw (
-      asked first_kept.before.allowed.ensures first_kept.if1.false,
-      asked second_kept.before.allowed2.ensures second_kept.if2.false,
+      asked first_kept.allowed.ensures first_kept.if-not-allowed.false-raw,
+      asked second_kept.allowed-2.ensures second_kept.if-not-allowed-2.false-raw,
       p,
-      asked called.allowed3.ensures c.before.if3.true,
+      asked called.allowed-3.ensures c.if-not-allowed-3.true-raw,
     ) (omega arith)
 
-fourth : tie.Need-returns-4
+fourth : tie.Need-returns-then-not-allowed-4
 unfolding coded number_of stray_from
 fourth c =
     let called = c.before.before in
@@ -52,15 +52,15 @@ fourth c =
     let p : k + 1 + 1 ≡ k + 2 = omega arith in
     let q : k + 2 + 1 ≡ k + 3 = omega arith in
     rw (
-      asked first_kept.before.allowed.ensures first_kept.if1.false,
-      asked second_kept.before.allowed2.ensures second_kept.if2.false,
+      asked first_kept.allowed.ensures first_kept.if-not-allowed.false-raw,
+      asked second_kept.allowed-2.ensures second_kept.if-not-allowed-2.false-raw,
       p,
-      asked third_kept.before.allowed3.ensures third_kept.if3.false,
+      asked third_kept.allowed-3.ensures third_kept.if-not-allowed-3.false-raw,
       q,
-      asked called.allowed4.ensures c.before.if4.true,
+      asked called.allowed-4.ensures c.if-not-allowed-4.true-raw,
     ) (omega arith)
 
-none : tie.Need-returns-5
+none : tie.Need-returns
 unfolding coded number_of stray_from
 none c =
     let called = c.before in
@@ -71,12 +71,12 @@ none c =
     let p : k + 1 + 1 ≡ k + 2 = omega arith in
     let q : k + 2 + 1 ≡ k + 3 = omega arith in
     rw (
-      asked first_kept.before.allowed.ensures first_kept.if1.false,
-      asked second_kept.before.allowed2.ensures second_kept.if2.false,
+      asked first_kept.allowed.ensures first_kept.if-not-allowed.false-raw,
+      asked second_kept.allowed-2.ensures second_kept.if-not-allowed-2.false-raw,
       p,
-      asked third_kept.before.allowed3.ensures third_kept.if3.false,
+      asked third_kept.allowed-3.ensures third_kept.if-not-allowed-3.false-raw,
       q,
-      asked called.allowed4.ensures c.if4.false,
+      asked called.allowed-4.ensures c.if-not-allowed-4.false-raw,
     )
 
 pub four_bits_spec : {M : Type 1} → statement M

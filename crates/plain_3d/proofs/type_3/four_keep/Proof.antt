@@ -9,7 +9,7 @@ use Rattle.plain_3d.proofs.type_3.four_keep.Tie as tie
 returns : tie.Need-returns
 unfolding all_keep
 returns c =
-    simp (c.before.before.before.allowed.ensures, c.before.before.allowed2.ensures, c.before.allowed3.ensures, c.allowed4.ensures, and-true)
+    simp (c.allowed.ensures, c.allowed-2.ensures, c.allowed-3.ensures, c.allowed-4.ensures, and-true)
 
 pub four_keep_spec : {M : Type 1} → statement M
 four_keep_spec = tie.close (tie.spec (λ c κs. search rules) (λ c κs. search rules) (λ c κs. search rules) (λ c κs. search rules) returns)

@@ -7,4 +7,4 @@ use Rattle.plain_3d.proofs.type_3.high_mask.Tie as tie
 
 pub high_mask_spec : {M : Type 1} → statement M
 high_mask_spec =
-    tie.close (tie.spec (λ c. simp (eq-eqb _ 1 c.if1.true, div-one)) (λ c. simp (ne_eqb _ 1 c.if1.false, div-one)))
+    tie.close (tie.spec (λ c. simp (eq-eqb _ 1 c.if-low-eq1.true, div-one)) (λ c. simp (ne_eqb _ 1 c.if-low-eq1.false, div-one)))

@@ -16,43 +16,43 @@ unfolding coded first_from number_of in_group rows the_row group_size uses_by_ro
 pipe_unsynced_spec =
     tie.close
     (tie.spec (λ c. search rules) (λ c κs. search rules)
-    (λ c. let start = c.before.before.before.before in rw (start.requires.1, ne_eqb _ _ c.before.if1.true) c.at.ensures)
+    (λ c. let start = c.before.before.before.before in rw (start.requires.1, ne_eqb _ _ c.if-rest-ne0.true) c.at.ensures)
     (λ c. search rules) (λ c κs. search rules)
     (λ c.
     let second = c.before.before.before in
-    rw (second.before.before.before.requires.1, eq-eqb _ _ second.if1.false, ne_eqb _ _ c.before.if2.true)
-    c.at2.ensures)
+    rw (second.requires.1, eq-eqb _ _ second.if-rest-ne0.false, ne_eqb _ _ c.if-rest-ne0-2.true)
+    c.at-then-rest-ne0-2.ensures)
     (λ c. search rules) (λ c κs. search rules)
     (λ c.
     let third = c.before.before.before in
     let second = third.before.before in
     rw (
-      second.before.before.before.requires.1,
-      eq-eqb _ _ second.if1.false,
-      eq-eqb _ _ third.if2.false,
-      ne_eqb _ _ c.before.if3.true,
+      second.requires.1,
+      eq-eqb _ _ second.if-rest-ne0.false,
+      eq-eqb _ _ third.if-rest-ne0-2.false,
+      ne_eqb _ _ c.if-rest-ne0-3.true,
     )
-    c.at3.ensures)
+    c.at-then-rest-ne0-3.ensures)
     (λ c. search rules) (λ c κs. search rules)
     (λ c.
     let fourth = c.before.before.before in
     let third = fourth.before.before in
     let second = third.before.before in
     rw (
-      second.before.before.before.requires.1,
-      eq-eqb _ _ second.if1.false,
-      eq-eqb _ _ third.if2.false,
-      eq-eqb _ _ fourth.if3.false,
-      ne_eqb _ _ c.before.if4.true,
-    ) c.at4.ensures)
+      second.requires.1,
+      eq-eqb _ _ second.if-rest-ne0.false,
+      eq-eqb _ _ third.if-rest-ne0-2.false,
+      eq-eqb _ _ fourth.if-rest-ne0-3.false,
+      ne_eqb _ _ c.if-rest-ne0-4.true,
+    ) c.at-then-rest-ne0-4.ensures)
     (λ c.
     let fourth = c.before.before in
     let third = fourth.before.before in
     let second = third.before.before in
     rw (
-      second.before.before.before.requires.1,
-      eq-eqb _ _ second.if1.false,
-      eq-eqb _ _ third.if2.false,
-      eq-eqb _ _ fourth.if3.false,
-      eq-eqb _ _ c.if4.false,
+      second.requires.1,
+      eq-eqb _ _ second.if-rest-ne0.false,
+      eq-eqb _ _ third.if-rest-ne0-2.false,
+      eq-eqb _ _ fourth.if-rest-ne0-3.false,
+      eq-eqb _ _ c.if-rest-ne0-4.false,
     )))

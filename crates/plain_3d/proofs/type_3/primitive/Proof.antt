@@ -42,74 +42,74 @@ header_kept header e =
     let h : 0x7B000005 + 256 * (header / 256 % 8) ≡ header = omega arith in
     rw h at (at_each (λ j. allowed (0x7B000005 + 256 * j) 0x7B0007FF) 8 free_bits_tested (header / 256 % 8) (omega arith))
 
-other_header_lem : tie.Need-returns
+other_header_lem : tie.Need-returns-then-header-ne2063597573
 unfolding rows the_row
 other_header_lem c =
     let start = c.before.before.before.before in
-    c.other_header_lem.ensures ∙ other_exact _ primitive_row _ First 5 (lit≤ tt) row start.requires.1 (λ e low high. c.before.if1.true (omega arith))
+    c.other_header.ensures ∙ other_exact _ primitive_row _ First 5 (lit≤ tt) row start.requires.1 (λ e low high. c.if-header-ne2063597573.true (omega arith))
 
 -- the field of such a header
 field_5 : (h : ℕ) → h - h / 256 % 8 * 256 ≡ 0x7B000005 → h % 256 ≡ 5
 field_5 h e = omega arith
 
-past : tie.Need-returns-2
-past c = c.at.ensures ∙ exact_past primitive_row 5 row _ _ _ (field_5 _ c.before.before.if1.false) c.before.if2.true
+past : tie.Need-returns-then-rest-lt7
+past c = c.at.ensures ∙ exact_past primitive_row 5 row _ _ _ (field_5 _ c.if-header-ne2063597573.false) c.if-rest-lt7.true
 
-bit : tie.Need-returns-3
+bit : tie.Need-returns-then-not-allowed
 unfolding coded content_of first_from number_of bit_wrong allowed_at allowed_of masks_of in_group rows the_row group_size access_of uses_by_row used_high_of
 bit c =
     let called = c.before.before in
     let whole = called.before.before in
-    let header = whole.before.if1.false in
-    exact_says primitive_row 5 row _ _ _ (field_5 _ header) whole.if2.false
-    (rw (header_kept _ header, asked called.allowed.ensures c.before.if3.true) c.at2.ensures)
+    let header = whole.if-header-ne2063597573.false in
+    exact_says primitive_row 5 row _ _ _ (field_5 _ header) whole.if-rest-lt7.false
+    (rw (header_kept _ header, asked called.allowed.ensures c.if-not-allowed.true-raw) c.at-then-not-allowed.ensures)
 
-by_end : tie.Need-returns-4
+by_end : tie.Need-returns-then-rest-eq1
 unfolding coded content_of first_from number_of bit_wrong allowed_at allowed_of masks_of in_group rows the_row group_size
     high_wrong value_wrong_of value_wrong value_rules rule_of range_wrong address_at access_at access_of uses_by_row used_high_of
 by_end c =
     let masked = c.before.before.before in
     let whole = masked.before.before.before in
-    let header = whole.before.if1.false in
+    let header = whole.if-header-ne2063597573.false in
     let start = whole.before.before.before.before in
     let rest = start.args.rest.now in
-    let known = whole.before.before.before.shared-slice-known in
+    let known = whole.shared_slice_known-1 in
     let values = refuse_found ValueBroken batch_window 0 (first_from (value_wrong primitive_row rest) 0 7) in
-    exact_says primitive_row 5 row _ _ _ (field_5 _ header) whole.if2.false
+    exact_says primitive_row 5 row _ _ _ (field_5 _ header) whole.if-rest-lt7.false
     (rw (
       header_kept _ header,
-      asked masked.before.allowed.ensures masked.if3.false,
+      asked masked.allowed.ensures masked.if-not-allowed.false-raw,
       any_dword_lem (get_or rest 2 0) (omega (arith, known.given 2)),
       any_dword_lem (get_or rest 3 0) (omega (arith, known.given 3)),
       any_dword_lem (get_or rest 4 0) (omega (arith, known.given 4)),
       any_dword_lem (get_or rest 5 0) (omega (arith, known.given 5)),
       any_dword_lem (get_or rest 6 0) (omega (arith, known.given 6)),
-    ) (c.primitive-by-end.ensures ∙ alone values))
+    ) (c.primitive_by_end.ensures ∙ alone values))
 
-nothing : tie.Need-returns-5
+nothing : tie.Need-returns
 unfolding coded content_of first_from number_of bit_wrong allowed_at allowed_of masks_of in_group rows the_row group_size
     high_wrong value_wrong_of value_wrong value_rules rule_of range_wrong address_at access_at access_of uses_by_row used_high_of
 nothing c =
     let masked = c.before.before in
     let whole = masked.before.before.before in
-    let header = whole.before.if1.false in
+    let header = whole.if-header-ne2063597573.false in
     let start = whole.before.before.before.before in
     let rest = start.args.rest.now in
-    let known = whole.before.before.before.shared-slice-known in
-    exact_says primitive_row 5 row _ _ _ (field_5 _ header) whole.if2.false
+    let known = whole.shared_slice_known-1 in
+    exact_says primitive_row 5 row _ _ _ (field_5 _ header) whole.if-rest-lt7.false
     (rw (
       header_kept _ header,
-      asked masked.before.allowed.ensures masked.if3.false,
+      asked masked.allowed.ensures masked.if-not-allowed.false-raw,
       any_dword_lem (get_or rest 2 0) (omega (arith, known.given 2)),
       any_dword_lem (get_or rest 3 0) (omega (arith, known.given 3)),
       any_dword_lem (get_or rest 4 0) (omega (arith, known.given 4)),
       any_dword_lem (get_or rest 5 0) (omega (arith, known.given 5)),
       any_dword_lem (get_or rest 6 0) (omega (arith, known.given 6)),
-      ne_eqb _ _ c.if4.false,
+      ne_eqb _ _ c.if-rest-eq1.false,
     ))
 
-by_end_requires : tie.Need-primitive-by-end-requires
-by_end_requires c κs = (search rules, search rules, eq-eqb _ _ c.if4.true)
+by_end_requires : tie.Need-primitive_by_end-requires
+by_end_requires c κs = (search rules, search rules, eq-eqb _ _ c.if-rest-eq1.true)
 
 pub primitive_spec : {M : Type 1} → statement M
 primitive_spec =

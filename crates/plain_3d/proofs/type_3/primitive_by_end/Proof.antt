@@ -40,41 +40,41 @@ all_left s =
     ∙ rw (s.requires.2, ← s.requires.1, or-false) (sym (one_by_one (eqb (s.args.header / 0x400 % 2) 1) _ 3073 (answered (drop 2 (tests s.args.header s.args.rest.now)) 0))))
 
 -- where the function starts, and where the test before was passed: the header's, the first dword's, and the third's
-abbrev start : tie.Else1 → tie.Start
+abbrev start : tie.Else-header-eq1 → tie.Start
 start c = c.before.before
 
-abbrev header : tie.Else2 → tie.Else1
+abbrev header : tie.Else-rest-eq1 → tie.Else-header-eq1
 header c = c.before.before
 
-abbrev bit : tie.Else3 → tie.Else2
+abbrev bit : tie.Else-rest-ne0 → tie.Else-rest-eq1
 bit c = c.before.before
 
-abbrev third : tie.Else4 → tie.Else3
+abbrev third : tie.Else-rest-ne0-2 → tie.Else-rest-ne0
 third c = c.before.before
 
-header_clear : (c : tie.Else1) → Left (start c) 1
-header_clear c = passes 3073 _ (ne_eqb _ _ c.if1.false) (all_left (start c))
+header_clear : (c : tie.Else-header-eq1) → Left (start c) 1
+header_clear c = passes 3073 _ (ne_eqb _ _ c.if-header-eq1.false) (all_left (start c))
 
-bit_clear : (c : tie.Else2) → Left (start (header c)) 2
-bit_clear c = passes 3073 _ (ne_eqb _ _ c.if2.false) (header_clear (header c))
+bit_clear : (c : tie.Else-rest-eq1) → Left (start (header c)) 2
+bit_clear c = passes 3073 _ (ne_eqb _ _ c.if-rest-eq1.false) (header_clear (header c))
 
-third_clear : (c : tie.Else3) → Left (start (header (bit c))) 3
-third_clear c = passes 3075 _ (ap not (eq-eqb _ _ c.if3.false)) (bit_clear (bit c))
+third_clear : (c : tie.Else-rest-ne0) → Left (start (header (bit c))) 3
+third_clear c = passes 3075 _ (ap not (eq-eqb _ _ c.if-rest-ne0.false)) (bit_clear (bit c))
 
-fifth_clear : (c : tie.Else4) → Left (start (header (bit (third c)))) 4
-fifth_clear c = passes 3077 _ (ap not (eq-eqb _ _ c.if4.false)) (third_clear (third c))
+fifth_clear : (c : tie.Else-rest-ne0-2) → Left (start (header (bit (third c)))) 4
+fifth_clear c = passes 3077 _ (ap not (eq-eqb _ _ c.if-rest-ne0-2.false)) (third_clear (third c))
 
 pub primitive_by_end_spec : {M : Type 1} → statement M
 primitive_by_end_spec =
     tie.close
     (tie.spec (λ c κs. search rules)
-    (λ c. c.at.ensures ∙ refuses 3073 _ (eq-eqb _ _ c.before.if1.true) (all_left c.before.before.before))
+    (λ c. c.at.ensures ∙ refuses 3073 _ (eq-eqb _ _ c.if-header-eq1.true) (all_left c.before.before.before))
     (λ c. search rules) (λ c κs. search rules)
-    (λ c. c.at2.ensures ∙ refuses 3073 _ (eq-eqb _ _ c.before.if2.true) (header_clear c.before.before.before))
+    (λ c. c.at-then-rest-eq1.ensures ∙ refuses 3073 _ (eq-eqb _ _ c.if-rest-eq1.true) (header_clear c.before.before.before))
     (λ c. search rules) (λ c κs. search rules)
-    (λ c. c.at3.ensures ∙ refuses 3075 _ (ap not (ne_eqb _ _ c.before.if3.true)) (bit_clear c.before.before.before))
+    (λ c. c.at-then-rest-ne0.ensures ∙ refuses 3075 _ (ap not (ne_eqb _ _ c.if-rest-ne0.true)) (bit_clear c.before.before.before))
     (λ c. search rules) (λ c κs. search rules)
-    (λ c. c.at4.ensures ∙ refuses 3077 _ (ap not (ne_eqb _ _ c.before.if4.true)) (third_clear c.before.before.before))
+    (λ c. c.at-then-rest-ne0-2.ensures ∙ refuses 3077 _ (ap not (ne_eqb _ _ c.if-rest-ne0-2.true)) (third_clear c.before.before.before))
     (λ c. search rules) (λ c κs. search rules)
-    (λ c. c.at5.ensures ∙ refuses 3078 _ (ap not (ne_eqb _ _ c.before.if5.true)) (fifth_clear c.before.before.before))
-    (λ c. passes 3078 _ (ap not (eq-eqb _ _ c.if5.false)) (fifth_clear c.before.before)))
+    (λ c. c.at-then-rest-ne0-3.ensures ∙ refuses 3078 _ (ap not (ne_eqb _ _ c.if-rest-ne0-3.true)) (fifth_clear c.before.before.before))
+    (λ c. passes 3078 _ (ap not (eq-eqb _ _ c.if-rest-ne0-3.false)) (fifth_clear c.before.before)))

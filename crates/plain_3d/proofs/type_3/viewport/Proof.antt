@@ -18,4 +18,4 @@ viewport_row_lem = points (lit≤ tt) refl refl refl refl refl
 pub viewport_spec : {M : Type 1} → statement M
 viewport_spec =
     tie.close
-    (tie.spec (λ c κs. (c.before.requires.0, refl)) (λ c. pointer_decides viewport_row_lem no_windows _ c.before.before.requires.1 c.pointer.ensures))
+    (tie.spec (λ c κs. (c.requires.0, refl)) (λ c. pointer_decides viewport_row_lem no_windows _ c.requires.1 c.pointer.ensures))

@@ -14,17 +14,17 @@ use Rattle.plain_shared.proofs.Headers.{other_key, one_dword}
 use Rattle.plain_mi.proofs.type_0.end.Statement.{statement}
 use Rattle.plain_mi.proofs.type_0.end.Tie as tie
 
-wrong_bit : tie.Need-returns
+wrong_bit : tie.Need-returns-then-header-ne83886080
 unfolding rows the_row uses_by_row access_of value_rules rule_of
 wrong_bit c =
     rw (
       one_dword no_windows end_row _ First refl refl refl refl (lit≤ tt),
-      other_key end_row _ (lit≤ tt) refl refl c.before.before.requires c.before.if1.true,
+      other_key end_row _ (lit≤ tt) refl refl c.requires c.if-header-ne83886080.true,
     ) c.at.ensures
 
-nothing : tie.Need-returns-2
+nothing : tie.Need-returns
 unfolding rows the_row uses_by_row access_of value_rules rule_of allowed
-nothing c = rw (one_dword no_windows end_row _ First refl refl refl refl (lit≤ tt), header_bits end_row _, c.if1.false)
+nothing c = rw (one_dword no_windows end_row _ First refl refl refl refl (lit≤ tt), header_bits end_row _, c.if-header-ne83886080.false)
 
 pub end_spec : {M : Type 1} → statement M
 end_spec = tie.close (tie.spec (λ c κs. search rules) wrong_bit nothing)

@@ -9,23 +9,23 @@ use Rattle.plain_shared.proofs.Grouping.{AtGroup, Turn, by_number, at_first_lem,
 use Rattle.plain_mi.proofs.type_0.first_of_pairs.Statement.{statement}
 use Rattle.plain_mi.proofs.type_0.first_of_pairs.Tie as tie
 
-abbrev invariant_loop : tie.invariant_loop
+abbrev invariant_loop : tie.invariant-loop-k
 invariant_loop number d k₀ k = AtGroup (first_by no_windows set_registers_row d number) 2 (length d) k
 
-abbrev decreases_loop : tie.decreases_loop
+abbrev decreases_loop : tie.decreases-loop-k
 decreases_loop number d k₀ k = length d - k
 
-abbrev start : tie.In-loop invariant_loop decreases_loop → tie.Start invariant_loop decreases_loop
+abbrev start : tie.In-loop-k invariant_loop decreases_loop → tie.Start invariant_loop decreases_loop
 start c = c.before.before.before
 
-turn : (c : tie.In-loop invariant_loop decreases_loop) → Turn (first_by no_windows set_registers_row (start c).args.d.now (start c).args.number) 2 (length (start c).args.d.now) c.before.loop.k
-turn c = turn_at c.before.loop.invariant (start c).requires.1 c.loop-test.true
+turn : (c : tie.In-loop-k invariant_loop decreases_loop) → Turn (first_by no_windows set_registers_row (start c).args.d.now (start c).args.number) 2 (length (start c).args.d.now) c.loop-k.k
+turn c = turn_at c.loop-k.invariant (start c).requires.1 c.loop-k-test.true
 
 pub first_of_pairs_spec : {M : Type 1} → statement M
 first_of_pairs_spec =
     tie.close
-    (tie.spec invariant_loop decreases_loop (λ c. at_first_lem _ _ _ c.before.requires.0) (λ c κs. (turn c).there)
-    (λ c. stops (by_number _ _ _ _) (turn c.before.before) c.before.pair-wrong.ensures c.if1.true)
-    (λ c. omega (arith, (turn c.before.before).there.1)) (λ c. let t = c.before.before.loop-test.true in omega (arith, t))
-    (λ c. goes_on (by_number _ _ _ _) (turn c.before.before) c.before.pair-wrong.ensures c.if1.false)
-    (λ c. all_passed (by_number _ _ _ _) c.before.loop.invariant c.loop-test.false))
+    (tie.spec invariant_loop decreases_loop (λ c. at_first_lem _ _ _ c.requires.0) (λ c κs. (turn c).there)
+    (λ c. stops (by_number _ _ _ _) (turn c.before.before) c.pair_wrong-wrong.ensures c.if-wrong-ne-NOTHING.true)
+    (λ c. omega (arith, (turn c.before.before).there.1)) (λ c. let t = c.loop-k-test.true in omega (arith, t))
+    (λ c. goes_on (by_number _ _ _ _) (turn c.before.before) c.pair_wrong-wrong.ensures c.if-wrong-ne-NOTHING.false)
+    (λ c. all_passed (by_number _ _ _ _) c.loop-k.invariant c.loop-k-test.false))

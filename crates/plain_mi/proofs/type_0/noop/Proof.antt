@@ -13,7 +13,7 @@ use Rattle.plain_shared.proofs.Headers.{one_dword}
 use Rattle.plain_mi.proofs.type_0.noop.Statement.{statement}
 use Rattle.plain_mi.proofs.type_0.noop.Tie as tie
 
-wrong_bit : tie.Need-returns
+wrong_bit : tie.Need-returns-then-not-allowed
 unfolding rows the_row uses_by_row access_of value_rules rule_of
 wrong_bit c =
     let kept = c.before.before in
@@ -21,14 +21,14 @@ wrong_bit c =
       one_dword no_windows noop_row _ First refl refl refl refl (lit≤ tt),
       header_bits noop_row _,
       ← kept.allowed.ensures,
-      c.before.if1.true,
+      c.if-not-allowed.true-raw,
     ) c.at.ensures
 
-nothing : tie.Need-returns-2
+nothing : tie.Need-returns
 unfolding rows the_row uses_by_row access_of value_rules rule_of
 nothing c =
     let kept = c.before in
-    rw (one_dword no_windows noop_row _ First refl refl refl refl (lit≤ tt), header_bits noop_row _, ← kept.allowed.ensures, c.if1.false)
+    rw (one_dword no_windows noop_row _ First refl refl refl refl (lit≤ tt), header_bits noop_row _, ← kept.allowed.ensures, c.if-not-allowed.false-raw)
 
 pub noop_spec : {M : Type 1} → statement M
 noop_spec = tie.close (tie.spec (λ c κs. search rules) (λ c κs. search rules) wrong_bit nothing)

@@ -18,18 +18,18 @@ use Rattle.plain_shared.proofs.Dwords.{bit_in, free_in}
 use Rattle.plain_mi.proofs.type_0.pair_bit.Statement.{statement}
 use Rattle.plain_mi.proofs.type_0.pair_bit.Tie as tie
 
-decides : (c : tie.After-shared-slice-known) → let s = c.before in let k = s.args.k in let d = s.args.d.now in
+decides : (c : tie.After-shared_slice_known-1) → let s = c.before in let k = s.args.k in let d = s.args.d.now in
     cond (not (allowed (get_or d k 0) 0x007FFFFC)) (2560 + k) 0 ≡ first_coded BitNotAllowed (bit_wrong set_registers_row d) k 2
 unfolding rows the_row group_size uses_by_row access_of used_high_of masks_of number_of
 decides c =
     let s = c.before in
     let k = s.args.k in
     in_two _ _ k (bit_in set_registers_row refl _ _ s.requires 0 (omega arith) (omega arith) refl refl)
-    (free_in set_registers_row refl _ _ s.requires 1 (omega arith) refl refl refl (c.shared-slice-known.given (k + 1)).fits)
+    (free_in set_registers_row refl _ _ s.requires 1 (omega arith) refl refl refl (c.shared_slice_known-1.given (k + 1)).fits)
 
 pub pair_bit_spec : {M : Type 1} → statement M
 pair_bit_spec =
     tie.close
     (tie.spec (λ c. search rules) (λ c. search rules) (λ c κs. search rules) (λ c κs. search rules)
-    (λ c. let test = c.before.before in c.at.ensures ∙ refuses _ _ (asked test.allowed.ensures c.before.if1.true) (decides test.before.before))
-    (λ c. let test = c.before in passes _ _ (asked test.allowed.ensures c.if1.false) (decides test.before.before)))
+    (λ c. let test = c.before.before in c.at.ensures ∙ refuses _ _ (asked test.allowed.ensures c.if-not-allowed.true-raw) (decides test.before.before))
+    (λ c. let test = c.before in passes _ _ (asked test.allowed.ensures c.if-not-allowed.false-raw) (decides test.before.before)))

@@ -31,5 +31,5 @@ pair_value_spec =
     (tie.spec (λ c. search rules) (λ c. search rules) (λ c κs. search rules) (λ c κs. search rules)
     (λ c.
     let test = c.before.before in
-    c.at.ensures ∙ refuses _ _ (asked test.known-register.ensures c.before.if1.true) (decides test.before.before.before))
-    (λ c. let test = c.before in passes _ _ (asked test.known-register.ensures c.if1.false) (decides test.before.before.before)))
+    c.at.ensures ∙ refuses _ _ (asked test.known_register.ensures c.if-not-known_register.true-raw) (decides test.before.before.before))
+    (λ c. let test = c.before in passes _ _ (asked test.known_register.ensures c.if-not-known_register.false-raw) (decides test.before.before.before)))

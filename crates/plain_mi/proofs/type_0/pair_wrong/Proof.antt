@@ -15,9 +15,9 @@ pub pair_wrong_spec : {M : Type 1} → statement M
 unfolding first_by uses_by_row access_of
 pair_wrong_spec =
     tie.close
-    (tie.spec (λ c κs. search rules) (λ c. rw (eq-eqb _ _ c.before.if1.true) c.pair-bit.ensures)
+    (tie.spec (λ c κs. search rules) (λ c. rw (eq-eqb _ _ c.if-number-eq-BIT.true) c.pair_bit.ensures)
     (λ c κs. search rules)
-    (λ c. rw (ne_eqb _ _ c.before.before.if1.false, eq-eqb _ _ c.before.if2.true) c.pair-value.ensures)
+    (λ c. rw (ne_eqb _ _ c.if-number-eq-BIT.false, eq-eqb _ _ c.if-number-eq-VALUE.true) c.pair_value.ensures)
     (λ c.
-    rw (ne_eqb _ _ c.before.if1.false, ne_eqb _ _ c.if2.false)
+    rw (ne_eqb _ _ c.if-number-eq-BIT.false, ne_eqb _ _ c.if-number-eq-VALUE.false)
     (sym (free_coded RangeOutside _ _ 2 (no_ranges no_windows set_registers_row _ refl _ 2)))))

@@ -17,7 +17,7 @@ header : (c : tie.Start) → HeaderRight no_windows set_registers_row c.args.d.n
 unfolding in_group value_rules rule_of high_wrong value_wrong_of value_wrong uses_by_row access_of access_at used_high_of range_wrong
 header c = record { some = c.requires.0.0; bits = c.requires.1; value = refl; range = refl; quiet = refl }
 
-abbrev start : tie.After-first-of-pairs → tie.Start
+abbrev start : tie.After-first_of_pairs-bit → tie.Start
 start c = c.before.before.before.before
 
 pub pairs_spec : {M : Type 1} → statement M
@@ -25,10 +25,10 @@ unfolding uses_by_row access_of
 pairs_spec =
     tie.close
     (tie.spec (λ c κs. search rules)
-    (λ c. all_clean (header c.before.before.before) c.before.pairs-good.ensures c.if1.true)
-    (λ c κs. search rules) (λ c. bit_first (header (start c.before)) c.before.first-of-pairs.ensures c.if2.true)
+    (λ c. all_clean (header c.before.before.before) c.pairs_good.ensures c.if-pairs_good.true)
+    (λ c κs. search rules) (λ c. bit_first (header (start c.before)) c.first_of_pairs-bit.ensures c.if-bit-ne-NOTHING.true)
     (λ c κs. search rules)
     (λ c.
     let bits = c.before.before in
-    value_last (header (start bits)) bits.first-of-pairs.ensures c.before.if2.false
-    c.first-of-pairs2.ensures refl))
+    value_last (header (start bits)) bits.first_of_pairs-bit.ensures c.if-bit-ne-NOTHING.false
+    c.first_of_pairs.ensures refl))

@@ -12,39 +12,39 @@ use Rattle.plain_shared.proofs.Grouping.{AtGroup, Turn, free_in_order, at_first_
 use Rattle.plain_mi.proofs.type_0.pairs_good.Statement.{statement}
 use Rattle.plain_mi.proofs.type_0.pairs_good.Tie as tie
 
-abbrev invariant_loop : tie.invariant_loop
+abbrev invariant_loop : tie.invariant-loop-k
 invariant_loop d k₀ k = AtGroup (free_from (faulty no_windows set_registers_row d)) 2 (length d) k
 
-abbrev decreases_loop : tie.decreases_loop
+abbrev decreases_loop : tie.decreases-loop-k
 decreases_loop d k₀ k = length d - k
 
-abbrev start : tie.In-loop invariant_loop decreases_loop → tie.Start invariant_loop decreases_loop
+abbrev start : tie.In-loop-k invariant_loop decreases_loop → tie.Start invariant_loop decreases_loop
 start c = c.before.before.before
 
-turn : (c : tie.In-loop invariant_loop decreases_loop) → Turn (free_from (faulty no_windows set_registers_row (start c).args.d.now)) 2 (length (start c).args.d.now) c.before.loop.k
-turn c = turn_at c.before.loop.invariant (start c).requires.1 c.loop-test.true
+turn : (c : tie.In-loop-k invariant_loop decreases_loop) → Turn (free_from (faulty no_windows set_registers_row (start c).args.d.now)) 2 (length (start c).args.d.now) c.loop-k.k
+turn c = turn_at c.loop-k.invariant (start c).requires.1 c.loop-k-test.true
 
-abbrev inside : tie.After-pair-value invariant_loop decreases_loop → tie.In-loop invariant_loop decreases_loop
+abbrev inside : tie.After-pair_value invariant_loop decreases_loop → tie.In-loop-k invariant_loop decreases_loop
 inside c = c.before.before.before
 
 pub pairs_good_spec : {M : Type 1} → statement M
 unfolding uses_by_row access_of
 pairs_good_spec =
     tie.close
-    (tie.spec invariant_loop decreases_loop (λ c. at_first_lem _ _ _ c.before.requires.0) (λ c κs. (turn c).there)
+    (tie.spec invariant_loop decreases_loop (λ c. at_first_lem _ _ _ c.requires.0) (λ c κs. (turn c).there)
     (λ c.
     fails_there (free_in_order _) (turn c.before.before)
-    (bits_fail no_windows set_registers_row _ _ 2 (λ z. c.if1.true (c.before.pair-bit.ensures ∙ z))))
+    (bits_fail no_windows set_registers_row _ _ 2 (λ z. c.if-pair_bit-ne-NOTHING.true (c.pair_bit.ensures ∙ z))))
     (λ c κs. (turn c.before.before).there)
     (λ c.
     fails_there (free_in_order _) (turn (inside c.before))
-    (values_fail no_windows set_registers_row _ _ 2 (λ z. c.if2.true (c.before.pair-value.ensures ∙ z))))
+    (values_fail no_windows set_registers_row _ _ 2 (λ z. c.if-pair_value-ne-NOTHING.true (c.pair_value.ensures ∙ z))))
     (λ c. omega (arith, (turn (inside c.before)).there.1))
-    (λ c. let t = (inside c.before).loop-test.taken in omega (arith, t))
+    (λ c. let t = (inside c.before).loop-k-test.taken in omega (arith, t))
     (λ c.
     let bits = c.before.before.before in
     clean_there (free_in_order _) (turn bits.before)
-    (ranges_decide no_windows set_registers_row _ _ 2 (sym bits.pair-bit.ensures ∙ c.before.before.if1.false)
-    (sym c.before.pair-value.ensures ∙ c.if2.false)
+    (ranges_decide no_windows set_registers_row _ _ 2 (sym bits.pair_bit.ensures ∙ c.if-pair_bit-ne-NOTHING.false)
+    (sym c.pair_value.ensures ∙ c.if-pair_value-ne-NOTHING.false)
     ∙ no_ranges no_windows set_registers_row _ refl _ _))
-    (λ c. all_passed (free_in_order _) c.before.loop.invariant c.loop-test.false))
+    (λ c. all_passed (free_in_order _) c.loop-k.invariant c.loop-k-test.false))

@@ -9,10 +9,10 @@ use Rattle.plain_mi.proofs.Stores.{small_field}
 use Rattle.plain_mi.proofs.type_0.store_other.Statement.{statement}
 use Rattle.plain_mi.proofs.type_0.store_other.Tie as tie
 
-field : tie.Need-other-header-requires
+field : tie.Need-other_header-requires
 field c κs =
     let start = c.before.before.before in
-    (start.requires, small_field (bit (get_or start.args.rest.now 0 0) 21) c.store-field.ensures)
+    (start.requires, small_field (bit (get_or start.args.rest.now 0 0) 21) c.store_field.ensures)
 
 pub store_other_spec : {M : Type 1} → statement M
 store_other_spec =
@@ -20,4 +20,4 @@ store_other_spec =
     (tie.spec (λ c. search rules) (λ c κs. search rules) field
     (λ c.
     let start = c.before.before.before.before in
-    c.other_header_lem.ensures ∙ ap (other_header start.args.rest.now) c.before.store-field.ensures))
+    c.other_header.ensures ∙ ap (other_header start.args.rest.now) c.store_field.ensures))

@@ -11,31 +11,31 @@ use Rattle.plain_mi.proofs.Registers.{stores, register_refused, register_fits, a
 use Rattle.plain_mi.proofs.type_0.store_register.Statement.{statement}
 use Rattle.plain_mi.proofs.type_0.store_register.Tie as tie
 
-fits : (c : tie.Else1) → 4 ≤ length c.before.before.before.args.rest.now
-fits c = register_fits (stores c.before.before.before.args.w) _ c.before.register-and-address.ensures c.if1.false
+fits : (c : tie.Else-wrong-ne-NOTHING) → 4 ≤ length c.args.rest.now
+fits c = register_fits (stores c.args.w) _ c.register_and_address-wrong.ensures c.if-wrong-ne-NOTHING.false
 
-abbrev passed : tie.After-holds → tie.Else1
-passed c = c.before.before.before.before
+abbrev passed : tie.After-holds → tie.Else-wrong-ne-NOTHING
+passed c = c.before.before.before.before.before
 
-outside : tie.Need-returns-2
+outside : tie.Need-returns-then-not-holds
 outside c =
     let fit = c.before.before in
     let right = passed fit in
     c.at.ensures
-    ∙ addressed (stores _) _ right.before.register-and-address.ensures right.if1.left true
-    (scratch_holds _ 4 fit.before.address-of.ensures fit.holds.ensures) c.before.if2.true
+    ∙ addressed (stores _) _ right.register_and_address-wrong.ensures right.if-wrong-ne-NOTHING.left true
+    (scratch_holds _ 4 fit.address_of.ensures fit.holds.ensures) c.if-not-holds.true-raw
 
-nothing : tie.Need-returns-3
+nothing : tie.Need-returns
 nothing c =
     let fit = c.before in
     let right = passed fit in
-    addressed (stores _) _ right.before.register-and-address.ensures right.if1.left false
-    (scratch_holds _ 4 fit.before.address-of.ensures fit.holds.ensures) c.if2.false
+    addressed (stores _) _ right.register_and_address-wrong.ensures right.if-wrong-ne-NOTHING.left false
+    (scratch_holds _ 4 fit.address_of.ensures fit.holds.ensures) c.if-not-holds.false-raw
 
 pub store_register_spec : {M : Type 1} → statement M
 store_register_spec =
     tie.close
-    (tie.spec (λ c κs. (c.before.requires.0, refl))
-    (λ c. register_refused (stores _) _ c.before.register-and-address.ensures c.before.before.before.requires.1 c.if1.true)
-    (λ c. omega (arith, fits c.before)) (λ c. omega (arith, fits c.before.before)) (λ c κs. search rules) (λ c κs. search rules)
+    (tie.spec (λ c κs. (c.requires.0, refl))
+    (λ c. register_refused (stores _) _ c.register_and_address-wrong.ensures c.requires.1 c.if-wrong-ne-NOTHING.true)
+    (λ c. omega (arith, fits c.before.before)) (λ c. omega (arith, fits c.before.before.before)) (λ c κs. search rules) (λ c κs. search rules)
     (λ c κs. search rules) outside nothing)

@@ -7,23 +7,23 @@ use borrow.Author.Tests.{not-true, not-false}
 use Rattle.plain_vertex.proofs.vertices.address_good.Statement.{statement}
 use Rattle.plain_vertex.proofs.vertices.address_good.Tie as tie
 
-unused : tie.Need-returns
+unused : tie.Need-returns-then-not-buffer_used
 unused c =
     let off = c.before.before in
-    rw (sym off.before.buffer-used.ensures ∙ not-true _ off.if1.true) c.allowed.ensures
+    rw (sym off.buffer_used.ensures ∙ off.if-not-buffer_used.true) c.allowed.ensures
 
-not_canonical : tie.Need-returns-2
+not_canonical : tie.Need-returns-then-not-canonical
 not_canonical c =
     let high = c.before in
     let on = high.before.before in
-    rw (sym on.before.buffer-used.ensures ∙ not-false _ on.if1.false, sym high.canonical.ensures ∙ not-true _ c.if2.true)
+    rw (sym on.buffer_used.ensures ∙ on.if-not-buffer_used.false, sym high.canonical.ensures ∙ c.if-not-canonical.true)
 
-used : tie.Need-returns-3
+used : tie.Need-returns
 used c =
     let high = c.before.before in
     let on = high.before.before in
-    rw (sym on.before.buffer-used.ensures ∙ not-false _ on.if1.false, sym high.canonical.ensures ∙ not-false _ c.before.if2.false)
-    c.buffer-fits.ensures
+    rw (sym on.buffer_used.ensures ∙ on.if-not-buffer_used.false, sym high.canonical.ensures ∙ c.if-not-canonical.false)
+    c.buffer_fits.ensures
 
 pub address_good_spec : {M : Type 1} → statement M
 address_good_spec =

@@ -21,22 +21,22 @@ Left s n =
     let d = s.args.d.now in
     answered (drop n (bit_tests d k)) 0 ≡ first_coded BitNotAllowed (bit_wrong vertex_buffers_row d) k 4
 
-all_left : (c : tie.After-shared-slice-known) → Left c.before 0
-all_left c = let s = c.before in bits_tested _ s.args.k s.requires (λ (i : ℕ). (c.shared-slice-known.given i).fits)
+all_left : (c : tie.After-shared_slice_known-1) → Left c.before 0
+all_left c = let s = c.before in bits_tested _ s.args.k s.requires (λ (i : ℕ). (c.shared_slice_known-1.given i).fits)
 
-abbrev known : tie.Else1 → tie.After-shared-slice-known
+abbrev known : tie.Else-not-allowed → tie.After-shared_slice_known-1
 known c = c.before.before.before
 
-first_kept : (c : tie.Else1) → Left (known c).before 1
-first_kept c = passes _ _ (asked c.before.allowed.ensures c.if1.false) (all_left (known c))
+first_kept : (c : tie.Else-not-allowed) → Left (known c).before 1
+first_kept c = passes _ _ (asked c.allowed.ensures c.if-not-allowed.false-raw) (all_left (known c))
 
 -- what the code has asked of the high dword
-high : (c : tie.After-high-kept) → let a = (known c.before.before.before).before.args in
-    c.high_kept_lem.result ≡ (address_used a.d.now a.k || high_kept a.d.now a.k)
+high : (c : tie.After-high_kept) → let a = (known c.before.before.before).args in
+    c.high_kept.result ≡ (address_used a.d.now a.k || high_kept a.d.now a.k)
 high c =
     let used = c.before.before in
-    let a = (known used.before).before.args in
-    c.high_kept_lem.ensures ∙ ap (λ (u : Bool). u || high_kept a.d.now a.k) used.buffer-used.ensures
+    let a = (known used.before).args in
+    c.high_kept.ensures ∙ ap (λ (u : Bool). u || high_kept a.d.now a.k) used.buffer_used.ensures
 
 pub buffer_bit_spec : {M : Type 1} → statement M
 buffer_bit_spec =
@@ -44,9 +44,9 @@ buffer_bit_spec =
     (tie.spec (λ c. search rules) (λ c. search rules) (λ c κs. search rules) (λ c κs. search rules)
     (λ c.
     let test = c.before.before in
-    c.at.ensures ∙ refuses _ _ (asked test.allowed.ensures c.before.if1.true) (all_left test.before.before))
+    c.at.ensures ∙ refuses _ _ (asked test.allowed.ensures c.if-not-allowed.true-raw) (all_left test.before.before))
     (λ c κs. search rules) (λ c. search rules) (λ c. search rules) (λ c. search rules) (λ c κs. search rules) (λ c. search rules) (λ c κs. search rules)
     (λ c.
     let test = c.before.before in
-    c.at2.ensures ∙ refuses _ _ (asked (high test) c.before.if2.true) (first_kept test.before.before.before))
-    (λ c. let test = c.before in passes _ _ (asked (high test) c.if2.false) (first_kept test.before.before.before)))
+    c.at-then-not-high_kept.ensures ∙ refuses _ _ (asked (high test) c.if-not-high_kept.true-raw) (first_kept test.before.before.before))
+    (λ c. let test = c.before in passes _ _ (asked (high test) c.if-not-high_kept.false-raw) (first_kept test.before.before.before)))

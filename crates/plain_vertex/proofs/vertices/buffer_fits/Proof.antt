@@ -11,18 +11,18 @@ use Rattle.plain_vertex.proofs.BufferRanges.{with_address, without_address, rang
 use Rattle.plain_vertex.proofs.vertices.buffer_fits.Statement.{statement}
 use Rattle.plain_vertex.proofs.vertices.buffer_fits.Tie as tie
 
-none : tie.Need-returns
+none : tie.Need-returns-then-d-k-ne2
 none c =
     let start = c.before.before.before in
-    sym (ap not (range_is _ _ start.args.k start.requires {a = Unused} (rw (without_address _ c.if1.true))))
+    sym (ap not (range_is _ _ start.args.k start.requires {a = Unused} (rw (without_address _ c.if-d-k-ne2.true))))
 
-fits : tie.Need-returns-2
+fits : tie.Need-returns
 fits c =
     let used = c.before.before.before.before in
     let start = used.before.before.before in
     let size = get_or start.args.d.now (start.args.k + 3) 0 in
-    c.sized-fits.ensures
-    ∙ sym (ap not (range_is _ _ start.args.k start.requires {a = sized size} (rw (with_address _ used.if1.false))))
+    c.sized_fits.ensures
+    ∙ sym (ap not (range_is _ _ start.args.k start.requires {a = sized size} (rw (with_address _ used.if-d-k-ne2.false))))
 
 pub buffer_fits_spec : {M : Type 1} → statement M
 buffer_fits_spec =

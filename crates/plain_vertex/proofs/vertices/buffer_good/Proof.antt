@@ -26,28 +26,28 @@ address s =
     cond (address_used a.d.now a.k) (high_right a.d.now a.k && not (range_wrong a.w vertex_buffers_row a.d.now (a.k + 1)))
     (high_kept a.d.now a.k)
 
-all_left : (c : tie.After-shared-slice-known) → let s = c.before in let a = s.args in
+all_left : (c : tie.After-shared_slice_known-1) → let s = c.before in let a = s.args in
     Decides s (flags_kept a.d.now a.k && (not (index_high a.d.now a.k) && (not (pitch_high a.d.now a.k) && address s)))
-all_left c = let s = c.before in sym (clean_by_use _ s.args.k s.requires s.args.w (λ (i : ℕ). (c.shared-slice-known.given i).fits))
+all_left c = let s = c.before in sym (clean_by_use _ s.args.k s.requires s.args.w (λ (i : ℕ). (c.shared_slice_known-1.given i).fits))
 
-abbrev known : tie.Else1 → tie.After-shared-slice-known
+abbrev known : tie.Else-not-allowed → tie.After-shared_slice_known-1
 known c = c.before.before.before
 
-flags_kept_lem : (c : tie.Else1) → let s = (known c).before in let a = s.args in
+flags_kept_lem : (c : tie.Else-not-allowed) → let s = (known c).before in let a = s.args in
     Decides s (not (index_high a.d.now a.k) && (not (pitch_high a.d.now a.k) && address s))
-flags_kept_lem c = holds _ (sym c.before.allowed.ensures ∙ not-false _ c.if1.false) (all_left (known c))
+flags_kept_lem c = holds _ (sym c.allowed.ensures ∙ c.if-not-allowed.false) (all_left (known c))
 
-abbrev flags : tie.Else2 → tie.Else1
+abbrev flags : tie.Else-d-k-gt32 → tie.Else-not-allowed
 flags c = c.before.before
 
-low : (c : tie.Else2) → let s = (known (flags c)).before in let a = s.args in Decides s (not (pitch_high a.d.now a.k) && address s)
-low c = holds _ (ap not (le-ltb _ _ (low_index _ c.if2.false))) (flags_kept_lem (flags c))
+low : (c : tie.Else-d-k-gt32) → let s = (known (flags c)).before in let a = s.args in Decides s (not (pitch_high a.d.now a.k) && address s)
+low c = holds _ (ap not (le-ltb _ _ (low_index _ c.if-d-k-gt32.false))) (flags_kept_lem (flags c))
 
-abbrev index : tie.Else3 → tie.Else2
+abbrev index : tie.Else-d-k-gt2048 → tie.Else-d-k-gt32
 index c = c.before.before
 
-narrow : (c : tie.Else3) → let s = (known (flags (index c))).before in Decides s (address s)
-narrow c = holds _ (ap not (le-ltb _ _ c.if3.false)) (low (index c))
+narrow : (c : tie.Else-d-k-gt2048) → let s = (known (flags (index c))).before in Decides s (address s)
+narrow c = holds _ (ap not (le-ltb _ _ c.if-d-k-gt2048.false)) (low (index c))
 
 -- of an address below 2^47 nothing is left but its range, which is none where it is not used
 below : (used outside : Bool) {right kept : Bool} → right ≡ true → kept ≡ true → (used ≡ false → outside ≡ false)
@@ -59,21 +59,21 @@ pub buffer_good_spec : {M : Type 1} → statement M
 buffer_good_spec =
     tie.close
     (tie.spec (λ c. search rules) (λ c. search rules) (λ c κs. search rules)
-    (λ c. fails _ (sym c.before.allowed.ensures ∙ not-true _ c.if1.true) (all_left c.before.before.before))
+    (λ c. fails _ (sym c.allowed.ensures ∙ c.if-not-allowed.true) (all_left c.before.before.before))
     (λ c. search rules) (λ c. search rules)
     (λ c.
     let read = c.before in
     let s = (known read.before).before in
-    fails _ (ap not (lt-ltb _ _ (high_index _ (read.shared-slice-known3.given s.args.k).fits c.if2.true))) (flags_kept_lem read.before))
+    fails _ (ap not (lt-ltb _ _ (high_index _ (read.shared_slice_known-3-1.given s.args.k).fits c.if-d-k-gt32.true))) (flags_kept_lem read.before))
     (λ c. search rules) (λ c. search rules)
-    (λ c. fails _ (ap not (lt-ltb _ _ c.if3.true)) (low c.before.before))
+    (λ c. fails _ (ap not (lt-ltb _ _ c.if-d-k-gt2048.true)) (low c.before.before))
     (λ c. search rules) (λ c. search rules) (λ c. search rules) (λ c κs. search rules)
-    (λ c. c.address-good.ensures ∙ narrow c.before.before.before)
+    (λ c. c.address_good.ensures ∙ narrow c.before.before.before)
     (λ c κs. search rules)
     (λ c.
     let flagged = c.before.before.before in
     let s = (known (flags (index flagged))).before in
-    let high = c.before.if4.false in
-    c.buffer-fits.ensures
+    let high = c.if-d-k-gt32767.false in
+    c.buffer_fits.ensures
     ∙ below (address_used s.args.d.now s.args.k) _ (low_canonical _ high) (low_kept _ high) (unused_fits _ _ _ s.pre)
     ∙ narrow flagged))

@@ -11,15 +11,15 @@ use Rattle.plain_vertex.proofs.BufferRanges.{with_address, without_address, used
 use Rattle.plain_vertex.proofs.vertices.buffer_used.Statement.{statement}
 use Rattle.plain_vertex.proofs.vertices.buffer_used.Tie as tie
 
-none : tie.Need-returns
-none c = let a = c.before.before.args in sym (used_is a.d.now a.k {a = Unused} (rw (without_address _ c.if1.true)))
+none : tie.Need-returns-then-d-k-ne2
+none c = let a = c.args in sym (used_is a.d.now a.k {a = Unused} (rw (without_address _ c.if-d-k-ne2.true)))
 
-by_size : tie.Need-returns-2
+by_size : tie.Need-returns
 by_size c =
     let flags = c.before in
-    let a = flags.before.before.args in
+    let a = flags.args in
     let size = get_or a.d.now (a.k + 3) 0 in
-    sym (used_is a.d.now a.k {a = sized size} (rw (with_address _ flags.if1.false)) ∙ sized_used size)
+    sym (used_is a.d.now a.k {a = sized size} (rw (with_address _ flags.if-d-k-ne2.false)) ∙ sized_used size)
 
 pub buffer_used_spec : {M : Type 1} → statement M
 buffer_used_spec =

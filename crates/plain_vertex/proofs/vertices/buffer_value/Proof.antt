@@ -26,24 +26,24 @@ Left s n =
 all_left : (s : tie.Start) → Left s 0
 all_left s = values_tested _ s.args.k s.requires
 
-abbrev start : tie.Else1 → tie.Start
+abbrev start : tie.Else-d-k-gt32 → tie.Start
 start c = c.before.before.before
 
-low : (c : tie.Else1) → Left (start c) 1
-low c = passes _ _ (le-ltb _ _ (low_index _ c.if1.false)) (all_left (start c))
+low : (c : tie.Else-d-k-gt32) → Left (start c) 1
+low c = passes _ _ (le-ltb _ _ (low_index _ c.if-d-k-gt32.false)) (all_left (start c))
 
-narrow : (c : tie.Else2) → Left (start c.before.before) 2
-narrow c = passes _ _ (le-ltb _ _ c.if2.false) (low c.before.before)
+narrow : (c : tie.Else-d-k-gt2048) → Left (start c.before.before) 2
+narrow c = passes _ _ (le-ltb _ _ c.if-d-k-gt2048.false) (low c.before.before)
 
 -- what the code has asked of the high dword
-high : (c : tie.After-high-right) → let a = (start c.before.before.before.before.before).args in
-    not c.high_right_lem.result ≡ (address_used a.d.now a.k && not (high_right a.d.now a.k))
+high : (c : tie.After-high_right) → let a = (start c.before.before.before.before.before).args in
+    not c.high_right.result ≡ (address_used a.d.now a.k && not (high_right a.d.now a.k))
 high c =
     let used = c.before.before in
     let a = (start used.before.before.before).args in
-    ap not c.high_right_lem.ensures
+    ap not c.high_right.ensures
     ∙ not-not _
-    ∙ ap (λ (u : Bool). u && not (high_right a.d.now a.k)) used.buffer-used.ensures
+    ∙ ap (λ (u : Bool). u && not (high_right a.d.now a.k)) used.buffer_used.ensures
 
 pub buffer_value_spec : {M : Type 1} → statement M
 buffer_value_spec =
@@ -52,12 +52,12 @@ buffer_value_spec =
     (λ c.
     let read = c.before.before in
     let s = read.before.before in
-    let above = high_index _ (read.shared-slice-known2.given s.args.k).fits c.before.if1.true in
+    let above = high_index _ (read.shared_slice_known-2-1.given s.args.k).fits c.if-d-k-gt32.true in
     c.at.ensures ∙ refuses _ _ (lt-ltb _ _ above) (all_left s))
     (λ c. search rules) (λ c. search rules) (λ c κs. search rules)
-    (λ c. c.at2.ensures ∙ refuses _ _ (lt-ltb _ _ c.before.if2.true) (low c.before.before.before))
+    (λ c. c.at-then-d-k-gt2048.ensures ∙ refuses _ _ (lt-ltb _ _ c.if-d-k-gt2048.true) (low c.before.before.before))
     (λ c κs. search rules) (λ c. search rules) (λ c. search rules) (λ c. search rules) (λ c κs. search rules) (λ c. search rules) (λ c κs. search rules)
     (λ c.
     let test = c.before.before in
-    c.at3.ensures ∙ refuses _ _ (sym (high test) ∙ c.before.if3.true) (narrow test.before.before.before))
-    (λ c. let test = c.before in passes _ _ (sym (high test) ∙ c.if3.false) (narrow test.before.before.before)))
+    c.at-then-not-high_right.ensures ∙ refuses _ _ (sym (high test) ∙ c.if-not-high_right.true-raw) (narrow test.before.before.before))
+    (λ c. let test = c.before in passes _ _ (sym (high test) ∙ c.if-not-high_right.false-raw) (narrow test.before.before.before)))

@@ -12,17 +12,17 @@ pub buffer_wrong_spec : {M : Type 1} → statement M
 unfolding first_by
 buffer_wrong_spec =
     tie.close
-    (tie.spec (λ c κs. search rules) (λ c. rw (eq-eqb _ _ c.before.if1.true) c.buffer-bit.ensures)
+    (tie.spec (λ c κs. search rules) (λ c. rw (eq-eqb _ _ c.if-number-eq-BIT.true) c.buffer_bit.ensures)
     (λ c κs. search rules)
-    (λ c. rw (ne_eqb _ _ c.before.before.if1.false, eq-eqb _ _ c.before.if2.true) c.buffer-value.ensures)
+    (λ c. rw (ne_eqb _ _ c.if-number-eq-BIT.false, eq-eqb _ _ c.if-number-eq-VALUE.true) c.buffer_value.ensures)
     (λ c κs. search rules) (λ c. search rules) (λ c κs. search rules)
     (λ c.
     let fit = c.before.before in
     let other = fit.before in
-    let wrong = not-false _ (sym fit.buffer-fits.ensures ∙ not-true _ c.before.if3.true) in
-    rw (ne_eqb _ _ other.before.if1.false, ne_eqb _ _ other.if2.false) (c.at.ensures ∙ sym (range_fails _ _ _ other.before.before.before.requires wrong)))
+    let wrong = not-false _ (sym fit.buffer_fits.ensures ∙ c.if-not-buffer_fits.true) in
+    rw (ne_eqb _ _ other.if-number-eq-BIT.false, ne_eqb _ _ other.if-number-eq-VALUE.false) (c.at.ensures ∙ sym (range_fails _ _ _ other.requires wrong)))
     (λ c.
     let fit = c.before in
     let other = fit.before in
-    let right = not-true _ (sym fit.buffer-fits.ensures ∙ not-false _ c.if3.false) in
-    rw (ne_eqb _ _ other.before.if1.false, ne_eqb _ _ other.if2.false) (sym (range_fits _ _ _ other.before.before.before.requires right))))
+    let right = not-true _ (sym fit.buffer_fits.ensures ∙ c.if-not-buffer_fits.false) in
+    rw (ne_eqb _ _ other.if-number-eq-BIT.false, ne_eqb _ _ other.if-number-eq-VALUE.false) (sym (range_fits _ _ _ other.requires right))))

@@ -16,24 +16,24 @@ header : (c : tie.Start) → HeaderRight c.args.w vertex_buffers_row c.args.d.no
 unfolding in_group value_rules rule_of high_wrong value_wrong_of value_wrong uses_by_row access_of access_at used_high_of range_wrong
 header c = record { some = c.requires.0.0; bits = c.requires.1; value = refl; range = refl; quiet = refl }
 
-abbrev start : tie.After-first-of-buffers → tie.Start
+abbrev start : tie.After-first_of_buffers-bit → tie.Start
 start c = c.before.before.before.before
 
 pub buffers_spec : {M : Type 1} → statement M
 buffers_spec =
     tie.close
     (tie.spec (λ c κs. search rules)
-    (λ c. all_clean (header c.before.before.before) c.before.buffers-good.ensures c.if1.true)
+    (λ c. all_clean (header c.before.before.before) c.buffers_good.ensures c.if-buffers_good.true)
     (λ c κs. search rules)
-    (λ c. bit_first (header (start c.before)) c.before.first-of-buffers.ensures c.if2.true)
+    (λ c. bit_first (header (start c.before)) c.first_of_buffers-bit.ensures c.if-bit-ne-NOTHING.true)
     (λ c κs. search rules)
     (λ c.
     let bits = c.before.before.before in
-    value_first (header (start bits)) bits.first-of-buffers.ensures c.before.before.if2.false
-    c.before.first-of-buffers2.ensures c.if3.true)
+    value_first (header (start bits)) bits.first_of_buffers-bit.ensures c.if-bit-ne-NOTHING.false
+    c.first_of_buffers-value.ensures c.if-value-ne-NOTHING.true)
     (λ c κs. search rules)
     (λ c.
     let values = c.before.before in
     let bits = values.before.before in
-    range_last (header (start bits)) bits.first-of-buffers.ensures values.before.if2.false
-    values.first-of-buffers2.ensures c.before.if3.false c.first-of-buffers3.ensures))
+    range_last (header (start bits)) bits.first_of_buffers-bit.ensures values.if-bit-ne-NOTHING.false
+    values.first_of_buffers-value.ensures c.if-value-ne-NOTHING.false c.first_of_buffers.ensures))

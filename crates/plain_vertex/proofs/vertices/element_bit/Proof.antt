@@ -26,7 +26,7 @@ tests d k = (not (allowed (get_or d k 0) 0xFFFF8FFF), 2560 + k) ∷ (not (allowe
 abbrev Left : tie.Start → ℕ → Type 0
 Left s n = let k = s.args.k in let d = s.args.d.now in answered (drop n (tests d k)) 0 ≡ first_coded BitNotAllowed (bit_wrong vertex_elements_row d) k 2
 
-all_left : (c : tie.After-shared-slice-known) → Left c.before 0
+all_left : (c : tie.After-shared_slice_known-1) → Left c.before 0
 unfolding rows the_row group_size uses_by_row access_of used_high_of masks_of number_of
 all_left c =
     let s = c.before in
@@ -34,8 +34,8 @@ all_left c =
     in_two _ _ k (bit_in vertex_elements_row refl _ _ s.requires 0 (omega arith) (omega arith) refl refl)
     (bit_in vertex_elements_row refl _ _ s.requires 1 (omega arith) refl refl refl)
 
-first_kept : (c : tie.Else1) → let start = c.before.before.before.before in Left start 1
-first_kept c = passes _ _ (asked c.before.allowed.ensures c.if1.false) (all_left c.before.before.before)
+first_kept : (c : tie.Else-not-allowed) → let start = c.before.before.before.before in Left start 1
+first_kept c = passes _ _ (asked c.allowed.ensures c.if-not-allowed.false-raw) (all_left c.before.before.before)
 
 pub element_bit_spec : {M : Type 1} → statement M
 element_bit_spec =
@@ -43,9 +43,9 @@ element_bit_spec =
     (tie.spec (λ c. search rules) (λ c. search rules) (λ c κs. search rules) (λ c κs. search rules)
     (λ c.
     let test = c.before.before in
-    c.at.ensures ∙ refuses _ _ (asked test.allowed.ensures c.before.if1.true) (all_left test.before.before))
+    c.at.ensures ∙ refuses _ _ (asked test.allowed.ensures c.if-not-allowed.true-raw) (all_left test.before.before))
     (λ c. search rules) (λ c. search rules) (λ c. search rules) (λ c κs. search rules) (λ c. search rules) (λ c κs. search rules)
     (λ c.
     let test = c.before.before in
-    c.at2.ensures ∙ refuses _ _ (asked test.allowed2.ensures c.before.if2.true) (first_kept test.before.before))
-    (λ c. let test = c.before in passes _ _ (asked test.allowed2.ensures c.if2.false) (first_kept test.before.before)))
+    c.at-then-not-allowed-2.ensures ∙ refuses _ _ (asked test.allowed-2.ensures c.if-not-allowed-2.true-raw) (first_kept test.before.before))
+    (λ c. let test = c.before in passes _ _ (asked test.allowed-2.ensures c.if-not-allowed-2.false-raw) (first_kept test.before.before)))

@@ -47,14 +47,14 @@ all_left s =
     ∙ in_two _ _ k (value_in vertex_elements_row refl _ _ s.requires.0 0 (omega arith) (omega arith) refl ∙ or-false (index || format))
     (value_in vertex_elements_row refl _ _ s.requires.0 1 (omega arith) refl refl))
 
-abbrev start : tie.Else1 → tie.Start
+abbrev start : tie.Else-word-gt32 → tie.Start
 start c = c.before.before.before
 
-low : (c : tie.Else1) → Left (start c) 1
-low c = passes _ _ (le-ltb _ _ (low_index _ c.if1.false)) (all_left (start c))
+low : (c : tie.Else-word-gt32) → Left (start c) 1
+low c = passes _ _ (le-ltb _ _ (low_index _ c.if-word-gt32.false)) (all_left (start c))
 
-known : (c : tie.Else2) → Left (start c.before.before) 2
-known c = passes _ _ (asked c.before.known-format.ensures c.if2.false) (low c.before.before)
+known : (c : tie.Else-not-known_format) → Left (start c.before.before) 2
+known c = passes _ _ (asked c.known_format.ensures c.if-not-known_format.false-raw) (low c.before.before)
 
 pub element_value_spec : {M : Type 1} → statement M
 element_value_spec =
@@ -63,11 +63,11 @@ element_value_spec =
     (λ c.
     let read = c.before.before in
     let s = read.before.before in
-    let high = high_index _ (read.shared-slice-known2.given s.args.k).fits c.before.if1.true in
+    let high = high_index _ (read.shared_slice_known-2-1.given s.args.k).fits c.if-word-gt32.true in
     c.at.ensures ∙ refuses _ _ (lt-ltb _ _ high) (all_left s))
     (λ c κs. search rules) (λ c κs. search rules)
-    (λ c. c.at2.ensures ∙ refuses _ _ (asked c.before.before.known-format.ensures c.before.if2.true) (low c.before.before.before))
+    (λ c. c.at-then-not-known_format.ensures ∙ refuses _ _ (asked c.known_format.ensures c.if-not-known_format.true-raw) (low c.before.before.before))
     (λ c. search rules) (λ c. search rules) (λ c. search rules)
     (λ c κs. let known = c.before in (start known.before.before).requires.1) (λ c. search rules) (λ c κs. search rules)
-    (λ c. let test = c.before.before in c.at3.ensures ∙ refuses _ _ (asked test.controls-good.ensures c.before.if3.true) (known test.before.before))
-    (λ c. passes _ _ (asked c.before.controls-good.ensures c.if3.false) (known c.before.before.before)))
+    (λ c. let test = c.before.before in c.at-then-not-controls_good.ensures ∙ refuses _ _ (asked test.controls_good.ensures c.if-not-controls_good.true-raw) (known test.before.before))
+    (λ c. passes _ _ (asked c.controls_good.ensures c.if-not-controls_good.false-raw) (known c.before.before.before)))

@@ -15,9 +15,9 @@ pub element_wrong_spec : {M : Type 1} → statement M
 unfolding first_by uses_by_row access_of
 element_wrong_spec =
     tie.close
-    (tie.spec (λ c κs. search rules) (λ c. rw (eq-eqb _ _ c.before.if1.true) c.element-bit.ensures)
-    (λ c κs. (c.before.before.before.requires.0, c.before.before.before.requires.1 c.if2.true))
-    (λ c. rw (ne_eqb _ _ c.before.before.if1.false, eq-eqb _ _ c.before.if2.true) c.element-value.ensures)
+    (tie.spec (λ c κs. search rules) (λ c. rw (eq-eqb _ _ c.if-number-eq-BIT.true) c.element_bit.ensures)
+    (λ c κs. (c.requires.0, c.requires.1 c.if-number-eq-VALUE.true))
+    (λ c. rw (ne_eqb _ _ c.if-number-eq-BIT.false, eq-eqb _ _ c.if-number-eq-VALUE.true) c.element_value.ensures)
     (λ c.
-    rw (ne_eqb _ _ c.before.if1.false, ne_eqb _ _ c.if2.false)
+    rw (ne_eqb _ _ c.if-number-eq-BIT.false, ne_eqb _ _ c.if-number-eq-VALUE.false)
     (sym (free_coded RangeOutside _ _ 2 (no_ranges no_windows vertex_elements_row _ refl _ 2)))))

@@ -18,7 +18,7 @@ header : (c : tie.Start) → HeaderRight no_windows vertex_elements_row c.args.d
 unfolding in_group value_rules rule_of high_wrong value_wrong_of value_wrong uses_by_row access_of access_at used_high_of range_wrong
 header c = record { some = c.requires.0.0; bits = c.requires.1; value = refl; range = refl; quiet = refl }
 
-abbrev start : tie.After-first-of-elements → tie.Start
+abbrev start : tie.After-first_of_elements-bit → tie.Start
 start c = c.before.before.before.before
 
 pub elements_spec : {M : Type 1} → statement M
@@ -26,11 +26,11 @@ unfolding uses_by_row access_of
 elements_spec =
     tie.close
     (tie.spec (λ c κs. search rules)
-    (λ c. all_clean (header c.before.before.before) c.before.elements-good.ensures c.if1.true)
-    (λ c κs. (c.before.before.before.requires.0, λ v. absurd (omega arith)))
-    (λ c. bit_first (header (start c.before)) c.before.first-of-elements.ensures c.if2.true)
-    (λ c κs. ((start c.before).requires.0, λ v. sym c.before.first-of-elements.ensures ∙ c.if2.false))
+    (λ c. all_clean (header c.before.before.before) c.elements_good.ensures c.if-elements_good.true)
+    (λ c κs. (c.requires.0, λ v. absurd (omega arith)))
+    (λ c. bit_first (header (start c.before)) c.first_of_elements-bit.ensures c.if-bit-ne-NOTHING.true)
+    (λ c κs. ((start c.before).requires.0, λ v. sym c.first_of_elements-bit.ensures ∙ c.if-bit-ne-NOTHING.false))
     (λ c.
     let bits = c.before.before in
-    value_last (header (start bits)) bits.first-of-elements.ensures c.before.if2.false
-    c.first-of-elements2.ensures refl))
+    value_last (header (start bits)) bits.first_of_elements-bit.ensures c.if-bit-ne-NOTHING.false
+    c.first_of_elements.ensures refl))

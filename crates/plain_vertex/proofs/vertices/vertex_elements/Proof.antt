@@ -17,10 +17,10 @@ of_elements : GroupRow vertex_elements_row 2 34 0x780900
 unfolding rows the_row group_size
 of_elements = record { total = refl; of_size = refl; key = refl; mask = refl; known = omega arith }
 
-abbrev start : tie.Else1 → tie.Start
+abbrev start : tie.Else-head-ne-NOTHING → tie.Start
 start c = c.before.before.before
 
-own : (c : tie.Else1) {n : ℕ} → n ≡ field (get_or (start c).args.rest.now 0 0) 7 0 + 2
+own : (c : tie.Else-head-ne-NOTHING) {n : ℕ} → n ≡ field (get_or (start c).args.rest.now 0 0) 7 0 + 2
     → OwnGroups no_windows vertex_elements_row 2 (start c).args.rest.now First n
 own c l = own_groups of_elements no_windows _ First c.before.groups-header.ensures c.if1.false l
 
@@ -28,8 +28,8 @@ pub vertex_elements_spec : {M : Type 1} → statement M
 vertex_elements_spec =
     tie.close
     (tie.spec (λ c κs. search rules)
-    (λ c. groups_refuse of_elements no_windows _ First c.before.groups-header.ensures c.before.before.before.requires.1 c.if1.true)
+    (λ c. groups_refuse of_elements no_windows _ First c.groups_header-head.ensures c.requires.1 c.if-head-ne-NOTHING.true)
     (λ c. search rules) (λ c κs. search rules)
-    (λ c. (own c.before.before.before c.before.length-by-field.ensures).long)
-    (λ c κs. (own c.before.before.before c.before.length-by-field.ensures).right)
-    (λ c. let long = c.before.before in (own long.before.before long.length-by-field.ensures).says c.elements.ensures))
+    (λ c. (own c.before.before.before c.length_by_field-length.ensures).long)
+    (λ c κs. (own c.before.before.before c.length_by_field-length.ensures).right)
+    (λ c. let long = c.before.before in (own long.before.before long.length_by_field.ensures).says c.elements.ensures))
