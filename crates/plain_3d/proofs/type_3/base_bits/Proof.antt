@@ -64,7 +64,7 @@ third_four c =
 abbrev last_start : tie.After-four_bits → tie.Start
 last_start c = third_start c.before.before
 
-last_four : (c : tie.After-four_bits-first) → c.four_bits.result ≡ bits (last_start c) 12 4
+last_four : (c : tie.After-four_bits) → c.four_bits.result ≡ bits (last_start c) 12 4
 unfolding stray_from first_from bit_wrong allowed_at allowed_of masks_of in_group rows the_row group_size uses_by_row access_of used_high_of some
 last_four c = c.four_bits.ensures
 

@@ -22,14 +22,14 @@ outside c =
     let fit = c.before.before in
     let right = passed fit in
     c.at.ensures
-    ∙ addressed (loads _) _ right.register_and_address-wrong.ensures right.if-wrong-ne-NOTHING.left true
+    ∙ addressed (loads _) _ right.register_and_address-wrong.ensures right.if-wrong-ne-NOTHING.false true
     (any_fits _ 4 fit.address_of.ensures fit.anywhere.ensures) c.if-not-anywhere.true-raw
 
 nothing : tie.Need-returns
 nothing c =
     let fit = c.before in
     let right = passed fit in
-    addressed (loads _) _ right.register_and_address-wrong.ensures right.if-wrong-ne-NOTHING.left false
+    addressed (loads _) _ right.register_and_address-wrong.ensures right.if-wrong-ne-NOTHING.false false
     (any_fits _ 4 fit.address_of.ensures fit.anywhere.ensures) c.if-not-anywhere.false-raw
 
 pub load_register_spec : {M : Type 1} → statement M

@@ -40,7 +40,7 @@ pairs_good_spec =
     fails_there (free_in_order _) (turn (inside c.before))
     (values_fail no_windows set_registers_row _ _ 2 (λ z. c.if-pair_value-ne-NOTHING.true (c.pair_value.ensures ∙ z))))
     (λ c. omega (arith, (turn (inside c.before)).there.1))
-    (λ c. let t = (inside c.before).loop-k-test.taken in omega (arith, t))
+    (λ c. let t = (inside c.before).loop-k-test.true in omega (arith, t))
     (λ c.
     let bits = c.before.before.before in
     clean_there (free_in_order _) (turn bits.before)

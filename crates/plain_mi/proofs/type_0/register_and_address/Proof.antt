@@ -36,10 +36,10 @@ abbrev behind : tie.After-known_register-known → tie.Else-head-ne-NOTHING
 behind c = c.before.before
 
 -- 10 of the register, which is asked only where it is not known
-kept : (c : tie.Joined-known) → c.if-known.if3 ≡ allowed (get_or (start (behind c.before)).args.rest.now 1 0) 0x007FFFFC
+kept : (c : tie.Joined-known) → c.if-known.value ≡ allowed (get_or (start (behind c.before)).args.rest.now 1 0) 0x007FFFFC
 kept c =
-    ⊎_elim (λ told. told.1 ∙ told.0.taken ∙ sym (known_kept _ (sym c.known_register-known.ensures ∙ told.0.taken)))
-    (λ told. told.3 ∙ told.2.ensures) c.if-known.branch
+    ⊎_elim (λ told. told.value-is ∙ told.if-known.true ∙ sym (known_kept _ (sym c.known_register-known.ensures ∙ told.if-known.true)))
+    (λ told. told.value-is ∙ told.allowed.ensures) c.if-known.branch-raw
 
 -- and from each place behind it
 abbrev second : tie.Else-not-allowed-2 → tie.Joined-known

@@ -22,14 +22,14 @@ outside c =
     let fit = c.before.before in
     let right = passed fit in
     c.at.ensures
-    ∙ addressed (stores _) _ right.register_and_address-wrong.ensures right.if-wrong-ne-NOTHING.left true
+    ∙ addressed (stores _) _ right.register_and_address-wrong.ensures right.if-wrong-ne-NOTHING.false true
     (scratch_holds _ 4 fit.address_of.ensures fit.holds.ensures) c.if-not-holds.true-raw
 
 nothing : tie.Need-returns
 nothing c =
     let fit = c.before in
     let right = passed fit in
-    addressed (stores _) _ right.register_and_address-wrong.ensures right.if-wrong-ne-NOTHING.left false
+    addressed (stores _) _ right.register_and_address-wrong.ensures right.if-wrong-ne-NOTHING.false false
     (scratch_holds _ 4 fit.address_of.ensures fit.holds.ensures) c.if-not-holds.false-raw
 
 pub store_register_spec : {M : Type 1} → statement M

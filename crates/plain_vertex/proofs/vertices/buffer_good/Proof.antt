@@ -75,5 +75,5 @@ buffer_good_spec =
     let s = (known (flags (index flagged))).before in
     let high = c.if-d-k-gt32767.false in
     c.buffer_fits.ensures
-    ∙ below (address_used s.args.d.now s.args.k) _ (low_canonical _ high) (low_kept _ high) (unused_fits _ _ _ s.pre)
+    ∙ below (address_used s.args.d.now s.args.k) _ (low_canonical _ high) (low_kept _ high) (unused_fits _ _ _ s.requires)
     ∙ narrow flagged))

@@ -9,7 +9,7 @@ use mathlib.Core.Logic.{⊎_elim}
 use lib.ListN.{length, get_or, drop}
 use lib.Dec.{eqb}
 use borrow.Author.Rules.{rules}
-use borrow.Author.Tests.{eq-eqb, ne_eqb, leb-true}
+use borrow.Author.Tests.{eq-eqb, ne_eqb, le-leb}
 use Rattle.rules.specs.declared.Level.TheVariants.{First}
 use Rattle.rules.specs.Words.{allowed}
 use Rattle.rules.specs.Commands.{index_buffer_row}
@@ -60,17 +60,17 @@ rest c = (start c).args.rest.now
 abbrev used : tie.Else-head-ne-NOTHING → Bool
 used c = not (eqb (get_or (rest c) 4 0) 0)
 
-kept : (c : tie.Joined-low) → let at = flags c.before in c.if-low.if4 ≡ (used at || allowed (get_or (rest at) 3 0) 0x0000FFFF)
+kept : (c : tie.Joined-low) → let at = flags c.before in c.if-low.value ≡ (used at || allowed (get_or (rest at) 3 0) 0x0000FFFF)
 kept c =
     let at = flags c.before in
-    ⊎_elim (λ told. told.1 ∙ told.0.taken ∙ sym (low_kept_anyway (used at) (get_or (rest at) 3 0) (leb-true _ _ told.0.taken)))
-    (λ told. told.3 ∙ told.2.ensures) c.if-low.branch
+    ⊎_elim (λ told. told.value-is ∙ le-leb _ _ told.if-low.true ∙ sym (low_kept_anyway (used at) (get_or (rest at) 3 0) told.if-low.true))
+    (λ told. told.value-is ∙ told.high_kept.ensures) c.if-low.branch-raw
 
-right : (c : tie.Joined-low-2) → let at = format c.before in c.if-low-2.if7 ≡ not (used at && not (canonical (get_or (rest at) 3 0)))
+right : (c : tie.Joined-low-2) → let at = format c.before in c.if-low-2.value ≡ not (used at && not (canonical (get_or (rest at) 3 0)))
 right c =
     let at = format c.before in
-    ⊎_elim (λ told. told.1 ∙ told.0.taken ∙ sym (low_right_anyway (used at) (get_or (rest at) 3 0) (leb-true _ _ told.0.taken)))
-    (λ told. told.3 ∙ told.2.ensures) c.if-low-2.branch
+    ⊎_elim (λ told. told.value-is ∙ le-leb _ _ told.if-low-2.true ∙ sym (low_right_anyway (used at) (get_or (rest at) 3 0) told.if-low-2.true))
+    (λ told. told.value-is ∙ told.high_right.ensures) c.if-low-2.branch-raw
 
 first_kept : (c : tie.Else-not-allowed) → Left (flags c) 1
 first_kept c = passes 2561 _ (asked c.allowed.ensures c.if-not-allowed.false-raw) (all_left (flags c))

@@ -22,7 +22,7 @@ start c = c.before.before.before
 
 own : (c : tie.Else-head-ne-NOTHING) {n : ℕ} → n ≡ field (get_or (start c).args.rest.now 0 0) 7 0 + 2
     → OwnGroups no_windows vertex_elements_row 2 (start c).args.rest.now First n
-own c l = own_groups of_elements no_windows _ First c.before.groups-header.ensures c.if1.false l
+own c l = own_groups of_elements no_windows _ First c.before.groups_header-head.ensures c.if-head-ne-NOTHING.false l
 
 pub vertex_elements_spec : {M : Type 1} → statement M
 vertex_elements_spec =
@@ -30,6 +30,6 @@ vertex_elements_spec =
     (tie.spec (λ c κs. search rules)
     (λ c. groups_refuse of_elements no_windows _ First c.groups_header-head.ensures c.requires.1 c.if-head-ne-NOTHING.true)
     (λ c. search rules) (λ c κs. search rules)
-    (λ c. (own c.before.before.before c.length_by_field-length.ensures).long)
-    (λ c κs. (own c.before.before.before c.length_by_field-length.ensures).right)
-    (λ c. let long = c.before.before in (own long.before.before long.length_by_field.ensures).says c.elements.ensures))
+    (λ c. (own c.before.before c.length_by_field-length.ensures).long)
+    (λ c κs. (own c.before.before c.length_by_field-length.ensures).right)
+    (λ c. let long = c.before in (own long.before.before long.length_by_field-length.ensures).says c.elements.ensures))
