@@ -67,6 +67,7 @@ any_level w r rest level n = rw n
 -- a command of one dword is known by its header
 pub header_alone : (w : Windows) (r : ℕ) (rest : List ℕ) (level : Level) → (the_row r).total ≡ no_field → rule_of r ≡ no_rule
     → access_of r ≡ no_use → nested r level ≡ false → 0 < length rest → bare_of r (get_or rest 0 0 ∷ []) ≡ wrong_of w r rest level
+header_alone w r [] level t rule uses n h = elim h [ ]
 header_alone w r (x ∷ rest) level t rule uses n h =
     one_dword no_windows r (x ∷ []) First t rule uses refl (omega arith)
     ∙ ap (λ (b : Bool). cond b 2560 0) (header_bits r (x ∷ []) ∙ sym (header_bits r (x ∷ rest)))

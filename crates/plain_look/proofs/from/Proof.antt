@@ -8,4 +8,4 @@ use Rattle.plain_look.proofs.from.Tie as tie
 pub from_spec : {M : Type 1} → statement M
 from_spec =
     tie.close
-    (tie.spec (λ c. search rules) (λ c. search rules) (λ c. search rules) (λ c. search rules) (λ c. rest_is c.before.args.batch.now c.before.args.at))
+    (tie.spec (λ c. search rules) (λ c. search rules) (λ c. search rules) (λ c. search rules) (λ c. rest_is c.args.batch.now c.args.at))

@@ -29,7 +29,7 @@ module _ (s : tie.Start) {key r : ℕ} (k : header_at s.args.batch.now s.args.at
   row_is = by_key s.args.batch.now s.args.at s.requires.1 k q
 
   lent_to : {rest : List ℕ} → rest ≡ drop s.args.at s.args.batch.now → (0 < length rest) × (row_of (get_or rest 0 0) ≡ r)
-  lent_to e = lent s.args.batch.now s.args.at e s.pre.0 row_is
+  lent_to e = lent s.args.batch.now s.args.at e s.requires.0 row_is
 
   -- what is seen of a command of the row, by what its function answers: with windows or without, and of one length or by its field
   module _ (known : r < row_count) (n : Seen) {len answer : ℕ} {rest : List ℕ} (found : (n.row ≡ r) × (n.length ≡ len) × (n.wrong ≡ answer))
@@ -47,72 +47,72 @@ unfolding rows the_row row_from length_of uses_by_row access_of value_rules rule
 seen_of_type_3_spec =
     tie.close
     (tie.spec (λ c. search rules) (λ c. search rules)
-    (λ c κs. search rules) (λ c κs. let k = c.before in lent_to k.before.before.before k.match.keys1 refl c.from.ensures) (λ c κs. search rules)
-    (λ c κs. row_is c.before.before.before c.match.keys2 refl) (λ c κs. search rules)
-    (λ c κs. search rules) (λ c κs. let k = c.before in lent_to k.before.before.before k.match.keys3 refl c.from2.ensures) (λ c κs. search rules)
+    (λ c κs. search rules) (λ c κs. let k = c.before in lent_to k.before.before.before k.in-31232.is refl c.from.ensures) (λ c κs. search rules)
+    (λ c κs. row_is c.before.before.before c.in-26884.is refl) (λ c κs. search rules)
+    (λ c κs. search rules) (λ c κs. let k = c.before in lent_to k.before.before.before k.in-24833.is refl c.from-in-24833.ensures) (λ c κs. search rules)
     (λ c κs. search rules) (λ c κs. search rules)
-    (λ c κs. let k = c.before.before in lent_to k.before.before.before k.match.keys4 refl c.from3.ensures) (λ c κs. search rules)
+    (λ c κs. let k = c.before.before in lent_to k.before.before.before k.in-30728.is refl c.from-in-30728.ensures) (λ c κs. search rules)
     (λ c κs. search rules) (λ c κs. search rules)
-    (λ c κs. let k = c.before.before in lent_to k.before.before.before k.match.keys5 refl c.from4.ensures) (λ c κs. search rules)
-    (λ c κs. search rules) (λ c κs. let k = c.before in lent_to k.before.before.before k.match.keys6 refl c.from5.ensures) (λ c κs. search rules)
-    (λ c κs. search rules) (λ c κs. let k = c.before in lent_to k.before.before.before k.match.keys7 refl c.from6.ensures) (λ c κs. search rules)
-    (λ c κs. search rules) (λ c κs. let k = c.before in lent_to k.before.before.before k.match.keys8 refl c.from7.ensures) (λ c κs. search rules)
-    (λ c κs. search rules) (λ c κs. let k = c.before in lent_to k.before.before.before k.match.keys9 refl c.from8.ensures) (λ c κs. search rules)
-    (λ c κs. search rules) (λ c κs. let k = c.before in lent_to k.before.before.before k.match.keys10 refl c.from9.ensures) (λ c κs. search rules)
-    (λ c κs. search rules) (λ c κs. let k = c.before in lent_to k.before.before.before.before k.if1.true refl c.from10.ensures) (λ c κs. search rules)
+    (λ c κs. let k = c.before.before in lent_to k.before.before.before k.in-30729.is refl c.from-in-30729.ensures) (λ c κs. search rules)
+    (λ c κs. search rules) (λ c κs. let k = c.before in lent_to k.before.before.before k.in-30730.is refl c.from-in-30730.ensures) (λ c κs. search rules)
+    (λ c κs. search rules) (λ c κs. let k = c.before in lent_to k.before.before.before k.in-30795.is refl c.from-in-30795.ensures) (λ c κs. search rules)
+    (λ c κs. search rules) (λ c κs. let k = c.before in lent_to k.before.before.before k.in-30755.is refl c.from-in-30755.ensures) (λ c κs. search rules)
+    (λ c κs. search rules) (λ c κs. let k = c.before in lent_to k.before.before.before k.in-30734.is refl c.from-in-30734.ensures) (λ c κs. search rules)
+    (λ c κs. search rules) (λ c κs. let k = c.before in lent_to k.before.before.before k.in-31488.is refl c.from-in-31488.ensures) (λ c κs. search rules)
+    (λ c κs. search rules) (λ c κs. let k = c.before in lent_to k.before.before.before.before k.if-key-eq30756.true refl c.from-then-key-eq30756.ensures) (λ c κs. search rules)
     (λ c.
     let k = c.before.before.before in
-    alone k.before.before.before.before k.if1.true refl (lit< tt) _ c.found11.ensures c.before.before.from10.ensures
-    (exactly_long 17 _ 0 refl) c.before.blend.ensures (no_address 17 refl))
+    alone k.before.before.before.before k.if-key-eq30756.true refl (lit< tt) _ c.found-then-key-eq30756.ensures c.from-then-key-eq30756.ensures
+    (exactly_long 17 _ 0 refl) c.blend.ensures (no_address 17 refl))
     (λ c κs. search rules) (λ c κs. search rules)
     (λ c.
     let k = c.before.before.before in
-    within k.before.before.before k.match.keys1 refl (lit< tt) _ c.found.ensures c.before.before.from.ensures
-    (exactly_long 7 _ 4 refl) c.before.pipe.ensures)
+    within k.before.before.before k.in-31232.is refl (lit< tt) _ c.found.ensures c.from.ensures
+    (exactly_long 7 _ 4 refl) c.pipe.ensures)
     (λ c.
     let k = c.before.before in
     let s = k.before.before.before in
-    sees_alone _ s.args.batch.now s.args.at First 8 (lit< tt) (row_is s k.match.keys2 refl) _ c.found2.ensures
-    c.before.select.ensures refl s.requires.0 refl refl refl refl)
+    sees_alone _ s.args.batch.now s.args.at First 8 (lit< tt) (row_is s k.in-26884.is refl) _ c.found-in-26884.ensures
+    c.select.ensures refl s.requires.0 refl refl refl refl)
     (λ c.
     let k = c.before.before.before in
-    alone k.before.before.before k.match.keys3 refl (lit< tt) _ c.found3.ensures c.before.before.from2.ensures
-    (exactly_long 9 _ 14 refl) c.before.base.ensures bases_unasked)
+    alone k.before.before.before k.in-24833.is refl (lit< tt) _ c.found-in-24833.ensures c.from-in-24833.ensures
+    (exactly_long 9 _ 14 refl) c.base.ensures bases_unasked)
     (λ c.
     let k = c.before.before.before.before in
-    within k.before.before.before k.match.keys4 refl (lit< tt) _ c.found4.ensures c.before.before.from3.ensures
-    (λ q. c.before.before.before.length-by-field.ensures) c.before.vertex-buffers.ensures)
+    within k.before.before.before k.in-30728.is refl (lit< tt) _ c.found-in-30728.ensures c.from-in-30728.ensures
+    (λ q. c.length_by_field.ensures) c.vertex_buffers.ensures)
     (λ c.
     let k = c.before.before.before.before in
-    alone k.before.before.before k.match.keys5 refl (lit< tt) _ c.found5.ensures c.before.before.from4.ensures
-    (λ q. c.before.before.before.length-by-field2.ensures) c.before.vertex-elements.ensures (no_address 11 refl))
+    alone k.before.before.before k.in-30729.is refl (lit< tt) _ c.found-in-30729.ensures c.from-in-30729.ensures
+    (λ q. c.length_by_field-in-30729.ensures) c.vertex_elements.ensures (no_address 11 refl))
     (λ c.
     let k = c.before.before.before in
-    within k.before.before.before k.match.keys6 refl (lit< tt) _ c.found6.ensures c.before.before.from5.ensures
-    (exactly_long 12 _ 3 refl) c.before.index-buffer.ensures)
+    within k.before.before.before k.in-30730.is refl (lit< tt) _ c.found-in-30730.ensures c.from-in-30730.ensures
+    (exactly_long 12 _ 3 refl) c.index_buffer.ensures)
     (λ c.
     let k = c.before.before.before in
-    alone k.before.before.before k.match.keys7 refl (lit< tt) _ c.found7.ensures c.before.before.from6.ensures
-    (exactly_long 13 _ 0 refl) c.before.topology.ensures (no_address 13 refl))
+    alone k.before.before.before k.in-30795.is refl (lit< tt) _ c.found-in-30795.ensures c.from-in-30795.ensures
+    (exactly_long 13 _ 0 refl) c.topology.ensures (no_address 13 refl))
     (λ c.
     let k = c.before.before.before in
-    alone k.before.before.before k.match.keys8 refl (lit< tt) _ c.found8.ensures c.before.before.from7.ensures
-    (exactly_long 14 _ 0 refl) c.before.viewport.ensures (no_address 14 refl))
+    alone k.before.before.before k.in-30755.is refl (lit< tt) _ c.found-in-30755.ensures c.from-in-30755.ensures
+    (exactly_long 14 _ 0 refl) c.viewport.ensures (no_address 14 refl))
     (λ c.
     let k = c.before.before.before in
-    alone k.before.before.before k.match.keys9 refl (lit< tt) _ c.found9.ensures c.before.before.from8.ensures
-    (exactly_long 15 _ 0 refl) c.before.colour.ensures (no_address 15 refl))
+    alone k.before.before.before k.in-30734.is refl (lit< tt) _ c.found-in-30734.ensures c.from-in-30734.ensures
+    (exactly_long 15 _ 0 refl) c.colour.ensures (no_address 15 refl))
     (λ c.
     let k = c.before.before.before in
-    alone k.before.before.before k.match.keys10 refl (lit< tt) _ c.found10.ensures c.before.before.from9.ensures
-    (exactly_long 16 _ 5 refl) c.before.primitive.ensures (no_address 16 refl))
+    alone k.before.before.before k.in-31488.is refl (lit< tt) _ c.found-in-31488.ensures c.from-in-31488.ensures
+    (exactly_long 16 _ 5 refl) c.primitive.ensures (no_address 16 refl))
     (λ c.
     let last = c.before.before in
     let k = last.before in
     let s = k.before.before.before in
-    let keys = k.match.rest in
+    let keys = k.in_default.in_default-own.rest in
     sees_nothing _ s.args.batch.now s.args.at First _
     (unknown_3 (header_at s.args.batch.now s.args.at / 2 ^ 16) keys.0.0.0.1
-    ((((keys.0.0.0.0, keys.0.0.1), keys.0.1), keys.1), last.if1.false)
+    ((((keys.0.0.0.0, keys.0.0.1), keys.0.1), keys.1), last.if-key-eq30756.false)
     ∙ sym s.requires.1)
-    (c.found12.ensures.2 ∙ c.before.at.ensures)))
+    (c.found-in_default.ensures.2 ∙ c.at.ensures)))

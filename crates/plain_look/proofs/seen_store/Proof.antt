@@ -9,25 +9,25 @@ use Rattle.plain_look.proofs.seen_store.Statement.{statement}
 use Rattle.plain_look.proofs.seen_store.Tie as tie
 
 -- each of the two headers has its length in its field
-four : tie.Need-returns
+four : tie.Need-returns-in-268435458
 four c =
     let found = c.found.ensures in
-    (found.0, found.1 ∙ ap (λ (h : ℕ). field h 7 0 + 2) (sym c.before.before.match.keys1), found.2 ∙ c.before.store-four.ensures)
+    (found.0, found.1 ∙ ap (λ (h : ℕ). field h 7 0 + 2) (sym c.in-268435458.is), found.2 ∙ c.store_four.ensures)
 
-eight : tie.Need-returns-2
+eight : tie.Need-returns-in-270532611
 eight c =
-    let found = c.found2.ensures in
-    (found.0, found.1 ∙ ap (λ (h : ℕ). field h 7 0 + 2) (sym c.before.before.match.keys2), found.2 ∙ c.before.store-eight.ensures)
+    let found = c.found-in-270532611.ensures in
+    (found.0, found.1 ∙ ap (λ (h : ℕ). field h 7 0 + 2) (sym c.in-270532611.is), found.2 ∙ c.store_eight.ensures)
 
-neither : tie.Need-returns-3
+neither : tie.Need-returns-in_default
 neither c =
     let other = c.before in
     let rest = other.before.before in
     let start = rest.before.before.before in
-    let found = c.found3.ensures in (
+    let found = c.found-in_default.ensures in (
       found.0,
-      found.1 ∙ other.before.length-by-field.ensures,
-      found.2 ∙ other.store_other.ensures ∙ other_store _ _ start.requires.1 rest.match.rest.0.1 rest.match.rest.1 _ refl,
+      found.1 ∙ other.length_by_field.ensures,
+      found.2 ∙ other.store_other.ensures ∙ other_store _ _ start.requires.1 rest.in_default.in_default-own.rest.0.1 rest.in_default.in_default-own.rest.1 _ refl,
     )
 
 pub seen_store_spec : {M : Type 1} → statement M

@@ -15,11 +15,11 @@ use Rattle.step.proofs.step.Tie as tie
 abbrev start : tie.After-looked → tie.Start
 start c = c.before.before.before.before
 
-abbrev look : tie.After-row → tie.After-looked
-look c = c.before.before
+abbrev look : tie.In-Whole → tie.After-looked
+look c = c.before
 
-abbrev command : tie.After-structure-fault → tie.After-row
-command c = c.before.before.before.before
+abbrev command : tie.After-structure_fault → tie.In-Whole
+command c = c.before.before.before
 
 abbrev lent : tie.Start → Capture
 lent s = captured s.args.w s.args.batch.now s.args.state.now
@@ -28,44 +28,44 @@ inside : (c : tie.After-looked) → (start c).args.s.at < length (start c).args.
 inside c = search rules
 
 -- what the look told of a command that is whole
-whole : (c : tie.After-row)
-    → Looked (start (look c)).args.w (start (look c)).args.batch.now (start (look c)).args.s.at (start (look c)).args.s.level c.row.given.0.0 c.row.given.0.1.0
-whole c = looked_whole _ (start (look c)).args.batch.now (start (look c)).args.s.at _ (sym (look c).looked.ensures ∙ c.row.given.1)
+whole : (c : tie.In-Whole)
+    → Looked (start (look c)).args.w (start (look c)).args.batch.now (start (look c)).args.s.at (start (look c)).args.s.level c.in-Whole.row c.in-Whole.length
+whole c = looked_whole _ (start (look c)).args.batch.now (start (look c)).args.s.at _ (sym (look c).looked.ensures ∙ c.in-Whole.is)
 
 -- and what was told of its structure
-told : (c : tie.After-structure-fault)
-    → structural (lent (start (look (command c)))) (start (look (command c))).args.s ≡ c.structure-fault.result
+told : (c : tie.After-structure_fault)
+    → structural (lent (start (look (command c)))) (start (look (command c))).args.s ≡ c.structure_fault.result
 told c =
     let looked = look (command c) in
-    sym (structural_is (start looked).args.s (start looked).pre.0 (whole (command c)).named (whole (command c)).counted c.before.pointer-of.ensures)
-    ∙ sym c.structure-fault.ensures
+    sym (structural_is (start looked).args.s (start looked).requires.0 (whole (command c)).named (whole (command c)).counted c.pointer_of-pointer.ensures)
+    ∙ sym c.structure_fault.ensures
 
-add_next : tie.Need-overflow-add-next
-add_next c = let l = whole c.before in omega arith
+add_next : tie.Need-overflow_add-next
+add_next c = let l = whole c in omega arith
 
 part_command_end : tie.Need-slice-bounds-command-end
 part_command_end c = let l = whole c.before in search rules
 
-of_structure_lem : tie.Need-returns-2
+of_structure_lem : tie.Need-returns-in-Fails
 of_structure_lem c =
+    let asked = c.before in
+    let looked = look (command asked) in
+    let s = start looked in
+    structure_fails _ _ (inside looked) (own_passes s.args.s s.requires.0 (whole (command asked))) (told asked ∙ c.in-Fails.is)
+
+of_command_lem : tie.Need-returns-in-Wrong
+of_command_lem c =
+    let looked = c.before in
+    looked_wrong (start looked).args.s (start looked).requires.0 (inside looked) (sym looked.looked.ensures ∙ c.in-Wrong.is)
+
+taken : tie.Need-returns-in_default
+taken c =
     let asked = c.before.before.before in
     let looked = look (command asked) in
     let s = start looked in
-    structure_fails _ _ (inside looked) (own_passes s.args.s s.pre.0 (whole (command asked))) (told asked ∙ c.before.f2.given.1)
-
-of_command_lem : tie.Need-returns-3
-of_command_lem c =
-    let looked = c.before.before.before in
-    looked_wrong (start looked).args.s (start looked).requires.0 (inside looked) (sym looked.looked.ensures ∙ c.before.f.given.1)
-
-taken : tie.Need-returns-4
-taken c =
-    let asked = c.before.before.before.before in
-    let looked = look (command asked) in
-    let s = start looked in
     let l = whole (command asked) in
-    rw (c.level-number.ensures, c.before.move-of.ensures, taken_is s.args.s s.pre.0 l.named l.counted)
-    (all_pass _ _ (inside looked) (own_passes s.args.s s.pre.0 l) (told asked ∙ c.before.before.enum_told.given.1))
+    rw (c.level_number.ensures, c.move_of-after.ensures, taken_is s.args.s s.requires.0 l.named l.counted)
+    (all_pass _ _ (inside looked) (own_passes s.args.s s.requires.0 l) (told asked ∙ c.in_default.is))
 
 pub step_spec : {M : Type 1} → statement M
 step_spec =

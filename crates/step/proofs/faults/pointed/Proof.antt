@@ -6,11 +6,11 @@ use borrow.Author.Rules.{rules}
 use Rattle.step.proofs.faults.pointed.Statement.{statement}
 use Rattle.step.proofs.faults.pointed.Tie as tie
 
-off : tie.Need-returns
-off c = simp (ne_eqb _ _ c.if1.true, div-one)
+off : tie.Need-returns-then-pointer-ne1
+off c = simp (ne_eqb _ _ c.if-pointer-ne1.true, div-one)
 
-on : tie.Need-returns-2
-on c = simp (eq-eqb _ _ c.if1.false, div-one)
+on : tie.Need-returns
+on c = simp (eq-eqb _ _ c.if-pointer-ne1.false, div-one)
 
 pub pointed_spec : {M : Type 1} → statement M
 pointed_spec = tie.close (tie.spec off (λ c. search rules) on)

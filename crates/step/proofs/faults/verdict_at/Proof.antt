@@ -9,4 +9,4 @@ use Rattle.step.proofs.faults.verdict_at.Tie as tie
 pub verdict_at_spec : {M : Type 1} → statement M
 verdict_at_spec =
     tie.close
-    (tie.spec (λ c κs. search rules) (λ c κs. search rules) (λ c. c.verdict-of.ensures ∙ ap verdict_of c.before.read.ensures.answers))
+    (tie.spec (λ c κs. search rules) (λ c κs. search rules) (λ c. c.verdict_of.ensures ∙ ap verdict_of c.read.ensures.answers))

@@ -10,5 +10,5 @@ unfolding verdict_of
 verdict_of_spec =
     tie.close
     (tie.spec (λ c. search rules) (λ c. search rules) (λ c. search rules) (λ c. search rules)
-    (λ c. rw c.enum_told.given.1) (λ c. rw c.enum-told2.given.1) (λ c. rw c.enum-told3.given.1)
-    (λ c. rw c.before.reading.given.1))
+    (λ c. rw c.in-Depths.is) (λ c. rw c.in-Colour.is) (λ c. rw c.in-Blending.is)
+    (λ c. rw c.in-Unreadable.is))
