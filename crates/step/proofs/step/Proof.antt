@@ -43,8 +43,8 @@ told c =
 add_next : tie.Need-overflow_add-next
 add_next c = let l = whole c in omega arith
 
-part_command_end : tie.Need-slice-bounds-command-end
-part_command_end c = let l = whole c.before in search rules
+part_command_end : tie.Need-slice_bounds-command-end
+part_command_end c = let l = whole c in search rules
 
 of_structure_lem : tie.Need-returns-in-Fails
 of_structure_lem c =

@@ -23,141 +23,141 @@ use Rattle.turns.proofs.Looping.{small_place, small_at, tail_written}
 use Rattle.turns.proofs.run.Statement.{statement}
 use Rattle.turns.proofs.run.Tie as tie
 
-abbrev invariant_loop : tie.invariant_loop
+abbrev invariant_loop : tie.invariant-loop-f
 invariant_loop plainly batch state w records₀ masks formats room n₀ turn₀ records n turn =
     (Going turn₀.cursor.base (captured w batch state) records₀ records n turn.cursor) × (n ≤ room)
     × (turn.level ≡ level_number turn.cursor.level)
 
-abbrev decreases_loop : tie.decreases_loop
+abbrev decreases_loop : tie.decreases-loop-f
 decreases_loop plainly batch state w records₀ masks formats room n₀ turn₀ records n turn = room - n
 
 -- the places before the loop: where the masks are made, where the function starts, where the room is counted, where the first turn is made
-abbrev tables : tie.After-room-in invariant_loop decreases_loop → tie.After-mask-table invariant_loop decreases_loop
+abbrev tables : tie.After-room_in-room invariant_loop decreases_loop → tie.After-mask_table-masks invariant_loop decreases_loop
 tables c = c.before
 
-abbrev start : tie.After-room-in invariant_loop decreases_loop → tie.Start invariant_loop decreases_loop
+abbrev start : tie.After-room_in-room invariant_loop decreases_loop → tie.Start invariant_loop decreases_loop
 start c = (tables c).before.before.before.before
 
-abbrev counted : tie.At-loop invariant_loop decreases_loop → tie.After-room-in invariant_loop decreases_loop
+abbrev counted : tie.At-loop-f invariant_loop decreases_loop → tie.After-room_in-room invariant_loop decreases_loop
 counted l = l.before.before.before
 
-abbrev begun : tie.At-loop invariant_loop decreases_loop → tie.After-turn-at invariant_loop decreases_loop
+abbrev begun : tie.At-loop-f invariant_loop decreases_loop → tie.After-turn_at-turn invariant_loop decreases_loop
 begun l = l.before
 
 -- the first turn stands where a run starts
-at_start_lem : (c : tie.After-turn-at invariant_loop decreases_loop)
-    → c.turn_at.result.cursor ≡ walk.start (start c.before.before).args.base
-at_start_lem c = c.turn_at.ensures.0 ∙ c.before.started.ensures
+at_start_lem : (c : tie.After-turn_at-turn invariant_loop decreases_loop)
+    → c.turn_at-turn.result.cursor ≡ walk.start (start c.before.before).args.base
+at_start_lem c = c.turn_at-turn.ensures.0 ∙ c.started.ensures
 
 -- the places of a turn: its head, the step, the command that it took, and that command where there is room for its record
-abbrev turn : tie.After-step invariant_loop decreases_loop → tie.At-loop invariant_loop decreases_loop
+abbrev turn : tie.After-step invariant_loop decreases_loop → tie.At-loop-f invariant_loop decreases_loop
 turn c = c.before.before.before.before
 
-abbrev stepped : tie.After-command invariant_loop decreases_loop → tie.After-step invariant_loop decreases_loop
-stepped c = c.before.before
+abbrev stepped : tie.In-Taken invariant_loop decreases_loop → tie.After-step invariant_loop decreases_loop
+stepped c = c.before
 
-abbrev command : tie.Else1 invariant_loop decreases_loop → tie.After-command invariant_loop decreases_loop
-command c = c.before.before
+abbrev command : tie.Else-n-room invariant_loop decreases_loop → tie.In-Taken invariant_loop decreases_loop
+command c = c.before
 
-abbrev head : tie.Else1 invariant_loop decreases_loop → tie.At-loop invariant_loop decreases_loop
+abbrev head : tie.Else-n-room invariant_loop decreases_loop → tie.At-loop-f invariant_loop decreases_loop
 head c = turn (stepped (command c))
 
-abbrev lent : tie.At-loop invariant_loop decreases_loop → Capture
+abbrev lent : tie.At-loop-f invariant_loop decreases_loop → Capture
 lent l = let a = (start (counted l)).args in captured a.w a.batch.now a.state.now
 
 -- what the step answered: a fault, or a command and what comes after it
-refused_for : (c : tie.After-f invariant_loop decreases_loop)
-    → step_of (lent (turn c.before.before)) (turn c.before.before).loop.turn.cursor ≡ Refused c.f.given.0.0
-refused_for c = sym c.before.before.step.ensures ∙ c.f.given.1
+refused_for : (c : tie.In-Refused invariant_loop decreases_loop)
+    → step_of (lent (turn c.before)) (turn c.before).loop-f.turn.cursor ≡ Refused c.in-Refused.f
+refused_for c = sym c.step.ensures ∙ c.in-Refused.is
 
-took : (c : tie.After-command invariant_loop decreases_loop)
-    → step_of (lent (turn (stepped c))) (turn (stepped c)).loop.turn.cursor ≡ Taken c.command.given.0.0 c.command.given.0.1.0
-took c = sym (stepped c).step.ensures ∙ c.command.given.1
+took : (c : tie.In-Taken invariant_loop decreases_loop)
+    → step_of (lent (turn (stepped c))) (turn (stepped c)).loop-f.turn.cursor ≡ Taken c.in-Taken.command c.in-Taken.after
+took c = sym (stepped c).step.ensures ∙ c.in-Taken.is
 
-took_then : (c : tie.After-command invariant_loop decreases_loop) {after : After} → c.command.given.0.1.0 ≡ after
-    → step_of (lent (turn (stepped c))) (turn (stepped c)).loop.turn.cursor ≡ Taken c.command.given.0.0 after
+took_then : (c : tie.In-Taken invariant_loop decreases_loop) {after : After} → c.in-Taken.after ≡ after
+    → step_of (lent (turn (stepped c))) (turn (stepped c)).loop-f.turn.cursor ≡ Taken c.in-Taken.command after
 took_then c e = took c ∙ ap (Taken c.command.given.0.0) e
 
 -- there is budget and room for one command more
-room_left : (c : tie.Else1 invariant_loop decreases_loop)
-    → ((head c).loop.n < budget) × ((head c).loop.n < room_of (length (start (counted (head c))).args.records.now))
-    × ((head c).loop.n < room_of (length (head c).loop.records)) × ((head c).loop.n < (counted (head c)).room_in.result)
+room_left : (c : tie.Else-n-room invariant_loop decreases_loop)
+    → ((head c).loop-f.n < budget) × ((head c).loop-f.n < room_of (length (start (counted (head c))).args.records.now))
+    × ((head c).loop-f.n < room_of (length (head c).loop-f.records)) × ((head c).loop-f.n < (counted (head c)).room_in-room.result)
 room_left c =
     let l = head c in
-    some_left l.loop.inv.0 (counted l).room_in.ensures l.loop.inv.1 c.if1.false
+    some_left l.loop-f.invariant.0 (counted l).room_in-room.ensures l.loop-f.invariant.1 c.if-n-room.false
 
 -- so the two words of its record are there
-words_left : (c : tie.Else1 invariant_loop decreases_loop) → 2 * (head c).loop.n + 1 < length (head c).loop.records
-words_left c = omega (arith, (room_left c).2, room_is (length (head c).loop.records))
+words_left : (c : tie.Else-n-room invariant_loop decreases_loop) → 2 * (head c).loop-f.n + 1 < length (head c).loop-f.records
+words_left c = omega (arith, (room_left c).2, room_is (length (head c).loop-f.records))
 
 -- the command's record can be made, with the level that is carried
-recordable : (c : tie.After-command invariant_loop decreases_loop)
-    → (Recordable c.command.given.0.0) × ((turn (stepped c)).loop.turn.level ≡ c.command.given.0.0.level)
+recordable : (c : tie.In-Taken invariant_loop decreases_loop)
+    → (Recordable c.in-Taken.command) × ((turn (stepped c)).loop-f.turn.level ≡ c.in-Taken.command.level)
 recordable c =
     let l = turn (stepped c) in
-    (fits_record _ _ (start (counted l)).pre.1 (took c), l.loop.inv.2 ∙ level_is l.loop.inv.0 (took c))
+    (fits_record _ _ (start (counted l)).requires.1 (took c), l.loop.invariant.2 ∙ level_is l.loop.invariant.0 (took c))
 
-loop_holds : tie.Need-loop-init invariant_loop decreases_loop
-loop_holds c = (started _ _ (at_start_lem c) (start c.before.before).pre.3, omega arith, c.turn_at.ensures.1)
+loop_holds : tie.Need-loop-f-init invariant_loop decreases_loop
+loop_holds c = (started _ _ (at_start_lem c) (start c.before.before).requires.3, omega arith, c.turn_at-turn.ensures.1)
 
 step_requires : tie.Need-step-requires invariant_loop decreases_loop
 unfolding surface_formats
 step_requires c κs =
     let l = c.before.before.before in
     let room = counted l in
-    ((start room).pre.0, l.loop.invariant.0.small, (tables room).mask-table.ensures, refl)
+    ((start room).requires.0, l.loop-f.invariant.0.small, (tables room).mask_table-masks.ensures, refl)
 
 stopped_requires : tie.Need-stopped-requires invariant_loop decreases_loop
 stopped_requires c κs =
-    let l = turn c.before.before.before in
-    let fits = (start (counted l)).pre in
-    let place = small_place l.loop.inv.0 fits.1 fits.2 (refused_for c.before) in
-    (place.0, place.1, (small_at l.loop.inv.0 fits.1).1, place.2)
+    let l = turn c.before in
+    let fits = (start (counted l)).requires in
+    let place = small_place l.loop-f.invariant.0 fits.1 fits.2 (refused_for c) in
+    (place.0, place.1, (small_at l.loop-f.invariant.0 fits.1).1, place.2)
 
-returns : tie.Need-returns invariant_loop decreases_loop
+returns : tie.Need-returns-in-Refused invariant_loop decreases_loop
 returns c =
-    let f = c.before.before in
-    let l = turn f.before.before in
-    let going = l.loop.inv.0 in
+    let f = c.before in
+    let l = turn f.before in
+    let going = l.loop-f.invariant.0 in
     rw c.stopped.ensures (from_start (at_start_lem (begun l)) (stops going _ (λ h. refused going h (refused_for f))))
 
-stopped_requires_2 : tie.Need-stopped-requires-2 invariant_loop decreases_loop
+stopped_requires_2 : tie.Need-stopped-requires-then-n-room invariant_loop decreases_loop
 stopped_requires_2 c κs =
-    let l = turn (stepped c.before.before.before) in
-    let small = small_at l.loop.inv.0 (start (counted l)).pre.1 in
+    let l = turn (stepped c.before.before) in
+    let small = small_at l.loop.invariant.0 (start (counted l)).requires.1 in
     rw c.full.ensures (small.0, small.1, small.1, small.2)
 
-returns_2 : tie.Need-returns-2 invariant_loop decreases_loop
+returns_2 : tie.Need-returns-then-n-room invariant_loop decreases_loop
 returns_2 c =
     let no_room = c.before.before in
-    let taken = no_room.before.before in
+    let taken = no_room.before in
     let l = turn (stepped taken) in
-    let going = l.loop.inv.0 in
-    rw (c.stopped2.ensures, c.before.full.ensures)
+    let going = l.loop.invariant.0 in
+    rw (c.stopped-then-n-room.ensures, c.full.ensures)
     (from_start (at_start_lem (begun l))
-    (stops going _ (λ h. full going h (none_left_there going (counted l).room_in.ensures no_room.if1.true h) (took taken))))
+    (stops going _ (λ h. full going h (none_left_there going (counted l).room_in-room.ensures no_room.if-n-room.true h) (took taken))))
 
-returns_3 : tie.Need-returns-3 invariant_loop decreases_loop
+returns_3 : tie.Need-returns-in-Ends invariant_loop decreases_loop
 returns_3 c =
     let written = c.before.before.before in
     let told = written.before.before in
-    let room = told.before.before in
+    let room = told.before in
     let left = room_left room in
     let l = head room in
-    rw (c.acceptance.ensures, written.write-record.ensures, tail_written _ _ _ left.2)
+    rw (c.acceptance.ensures, written.write_record.ensures, tail_written _ _ _ left.2)
     (from_start (at_start_lem (begun l))
-    (last l.loop.inv.0 left.0 left.1 (took_then (command room) told.enum_told.given.1)))
+    (last l.loop-f.invariant.0 left.0 left.1 (took_then (command room) told.in-Ends.is)))
 
-loop_again : tie.Need-loop-preserved invariant_loop decreases_loop
+loop_again : tie.Need-loop-f-preserved invariant_loop decreases_loop
 loop_again c =
     let written = c.before.before.before in
-    let after = written.before.before.before in
-    let room = after.before.before in
+    let after = written.before.before in
+    let room = after.before in
     let left = room_left room in
     let l = head room in
-    let to = took_then (command room) (after.after.given.1 ∙ ap To (sym c.turn-at2.ensures.0)) in
-    let going = next l.loop.inv.0 left.0 left.1 to in
-    (rw (written.write-record2.ensures, tail_written _ _ _ left.2) going, omega (arith, left.3), c.turn-at2.ensures.1)
+    let to = took_then (command room) (after.in-To.is ∙ ap To (sym c.turn_at-turn-in-To.ensures.0)) in
+    let going = next l.loop-f.invariant.0 left.0 left.1 to in
+    (rw (written.write_record-in-To.ensures, tail_written _ _ _ left.2) going, omega (arith, left.3), c.turn_at-turn-in-To.ensures.1)
 
 pub run_spec : {M : Type 1} → statement M
 run_spec =
@@ -170,32 +170,32 @@ run_spec =
     (λ c. search rules) (λ c κs. search rules) stopped_requires_2 (λ c. search rules) returns_2
     -- it is the last
     (λ c. search rules)
-    (λ c. let left = words_left c.before.before in search rules)
-    (λ c. let left = words_left c.before.before in search rules)
-    (λ c. let left = words_left c.before.before in search rules)
-    (λ c. let left = words_left c.before.before in search rules)
-    (λ c. let left = words_left c.before.before in search rules)
+    (λ c. let left = words_left c.before in search rules)
+    (λ c. let left = words_left c.before in search rules)
+    (λ c. let left = words_left c.before in search rules)
+    (λ c. let left = words_left c.before in search rules)
+    (λ c. let left = words_left c.before in search rules)
     (λ c κs.
-    let room = c.before.before.before in
+    let room = c.before.before in
     let left = words_left room in
     let fits = recordable (command room) in
     (search rules, fits.0, fits.1))
-    (λ c. let told = c.before.before.before.before in let left = room_left told.before.before in search rules)
-    (λ c κs. let told = c.before.before.before.before in let left = room_left told.before.before in omega arith)
+    (λ c. let told = c.before.before.before.before in let left = room_left told.before in search rules)
+    (λ c κs. let told = c.before.before.before.before in let left = room_left told.before in omega arith)
     (λ c. search rules) returns_3
     -- it goes on
     (λ c. search rules)
-    (λ c. let left = words_left c.before.before.before in search rules)
-    (λ c. let left = words_left c.before.before.before in search rules)
-    (λ c. let left = words_left c.before.before.before in search rules)
-    (λ c. let left = words_left c.before.before.before in search rules)
-    (λ c. let left = words_left c.before.before.before in search rules)
+    (λ c. let left = words_left c.before in search rules)
+    (λ c. let left = words_left c.before in search rules)
+    (λ c. let left = words_left c.before in search rules)
+    (λ c. let left = words_left c.before in search rules)
+    (λ c. let left = words_left c.before in search rules)
     (λ c κs.
-    let room = c.before.before.before.before in
+    let room = c.before.before in
     let left = words_left room in
     let fits = recordable (command room) in
     (search rules, fits.0, fits.1))
-    (λ c. let after = c.before.before.before.before.before in let left = room_left after.before.before in search rules)
+    (λ c. let after = c.before.before.before.before in let left = room_left after.before in search rules)
     (λ c κs. search rules)
-    (λ c. let after = c.before.before.before.before.before.before in let left = room_left after.before.before in omega arith)
+    (λ c. let after = c.before.before.before.before.before in let left = room_left after.before in omega arith)
     loop_again)

@@ -8,11 +8,11 @@ use Rattle.turns.proofs.stopped.Tie as tie
 refusal_requires : tie.Need-refusal-requires
 refusal_requires c κs = rw c.spent.ensures (search rules)
 
-returns : tie.Need-returns
-returns c = rw (c.refusal.ensures, c.before.spent.ensures, eq-eqb _ _ c.before.before.if1.true)
+returns : tie.Need-returns-then-n-eq-BUDGET
+returns c = rw (c.refusal.ensures, c.spent.ensures, eq-eqb _ _ c.if-n-eq-BUDGET.true)
 
-returns_2 : tie.Need-returns-2
-returns_2 c = rw (c.refusal2.ensures, ne_eqb _ _ c.before.if1.false)
+returns_2 : tie.Need-returns
+returns_2 c = rw (c.refusal-2.ensures, ne_eqb _ _ c.if-n-eq-BUDGET.false)
 
 pub stopped_spec : {M : Type 1} → statement M
 stopped_spec = tie.close (tie.spec (λ c κs. search rules) refusal_requires returns (λ c κs. search rules) returns_2)

@@ -18,7 +18,7 @@ abbrev start : tie.In-PointsTo → tie.Start
 start c = c.before.before.before
 
 add_address : tie.Need-overflow_add-address
-add_address c = omega (arith, (start (pointed c)).requires.small _ c.in-Set.is, c.known_told-in-Set-1.given)
+add_address c = omega (arith, (start (pointed c)).requires.small _ c.in-Set.is, c.in-Set.known_told-in-Set-1-own.given)
 
 no_base_lem : tie.Need-returns-in_default-base
 no_base_lem c =

@@ -5,7 +5,7 @@ use Rattle.turns.proofs.turn.fresh.Statement.{statement}
 use Rattle.turns.proofs.turn.fresh.Tie as tie
 
 returns : tie.Need-returns
-returns c = rw (c.before.fresh-level.ensures, c.fresh-base.ensures)
+returns c = rw (c.fresh_level.ensures, c.fresh_base.ensures)
 
 pub fresh_spec : {M : Type 1} → statement M
 fresh_spec = tie.close (tie.spec (λ c κs. search rules) (λ c κs. search rules) returns)
