@@ -76,7 +76,7 @@ took c = sym (stepped c).step.ensures ∙ c.in-Taken.is
 
 took_then : (c : tie.In-Taken invariant_loop decreases_loop) {after : After} → c.in-Taken.after ≡ after
     → step_of (lent (turn (stepped c))) (turn (stepped c)).loop-f.turn.cursor ≡ Taken c.in-Taken.command after
-took_then c e = took c ∙ ap (Taken c.command.given.0.0) e
+took_then c e = took c ∙ ap (Taken c.in-Taken.command) e
 
 -- there is budget and room for one command more
 room_left : (c : tie.Else-n-room invariant_loop decreases_loop)
@@ -95,7 +95,7 @@ recordable : (c : tie.In-Taken invariant_loop decreases_loop)
     → (Recordable c.in-Taken.command) × ((turn (stepped c)).loop-f.turn.level ≡ c.in-Taken.command.level)
 recordable c =
     let l = turn (stepped c) in
-    (fits_record _ _ (start (counted l)).requires.1 (took c), l.loop.invariant.2 ∙ level_is l.loop.invariant.0 (took c))
+    (fits_record _ _ (start (counted l)).requires.1 (took c), l.loop-f.invariant.2 ∙ level_is l.loop-f.invariant.0 (took c))
 
 loop_holds : tie.Need-loop-f-init invariant_loop decreases_loop
 loop_holds c = (started _ _ (at_start_lem c) (start c.before.before).requires.3, omega arith, c.turn_at-turn.ensures.1)
@@ -124,7 +124,7 @@ returns c =
 stopped_requires_2 : tie.Need-stopped-requires-then-n-room invariant_loop decreases_loop
 stopped_requires_2 c κs =
     let l = turn (stepped c.before.before) in
-    let small = small_at l.loop.invariant.0 (start (counted l)).requires.1 in
+    let small = small_at l.loop-f.invariant.0 (start (counted l)).requires.1 in
     rw c.full.ensures (small.0, small.1, small.1, small.2)
 
 returns_2 : tie.Need-returns-then-n-room invariant_loop decreases_loop
@@ -132,7 +132,7 @@ returns_2 c =
     let no_room = c.before.before in
     let taken = no_room.before in
     let l = turn (stepped taken) in
-    let going = l.loop.invariant.0 in
+    let going = l.loop-f.invariant.0 in
     rw (c.stopped-then-n-room.ensures, c.full.ensures)
     (from_start (at_start_lem (begun l))
     (stops going _ (λ h. full going h (none_left_there going (counted l).room_in-room.ensures no_room.if-n-room.true h) (took taken))))
