@@ -9,8 +9,8 @@ returns : tie.Need-returns
 returns c =
     let table = c.before.before.before.before.before.before in
     let plainly = c.before.before in record {
-      answers = λ e. (one_check (rw e at table.check-from.ensures) plainly.check-from2.ensures).0;
-      written = λ e. (one_check (rw e at table.check-from.ensures) plainly.check-from2.ensures).1;
+      answers = λ e. (one_check (rw e at table.check_from-table.ensures) plainly.check_from-plainly.ensures).0;
+      written = λ e. (one_check (rw e at table.check_from-table.ensures) plainly.check_from-plainly.ensures).1;
     }
 
 pub asked_both_spec : {M : Type 1} → statement M
