@@ -9,22 +9,22 @@ use Rattle.api.proofs.flat.Statement.{statement}
 use Rattle.api.proofs.flat.Tie as tie
 
 -- the contents that are told fit 32 bits each
-small : (c : tie.After-opened2) → SmallContents c.opened2.given.0.0
-small c = subst Small c.opened2.given.1 c.before.before.requires
+small : (c : tie.In-Holds) → SmallContents c.in-Holds.contents
+small c = subst Small c.in-Holds.is c.requires
 
-returns : tie.Need-returns
+returns : tie.Need-returns-in-NotRead
 unfolding flat_of opened_verdict numbers_of told answer_with
-returns c = rw (c.before.before.opened.given.1, c.number.ensures)
+returns c = rw (c.in-NotRead.is, c.number.ensures)
 
-returns_2 : tie.Need-returns-2
+returns_2 : tie.Need-returns-in-Holds
 unfolding flat_of opened_verdict numbers_of told answer_with
-returns_2 c = let told = c.before.before.before.before in rw told.opened2.given.1
+returns_2 c = let told = c.before.before.before in rw told.in-Holds.is
 
 pub flat_spec : {M : Type 1} → statement M
 flat_spec =
     tie.close
     (tie.spec (λ c. search rules) (λ c κs. search rules) (λ c. search rules)
-    (λ c. record { fits = (small c.before.before).batch })
-    (λ c. record { fits = (small c.before.before.before).state })
-    (λ c. let told = c.before.before.before.before in record { fits = (small told).scratch })
+    (λ c. record { fits = (small c.before).batch })
+    (λ c. record { fits = (small c.before.before).state })
+    (λ c. let told = c.before.before.before in record { fits = (small told).scratch })
     returns returns_2)

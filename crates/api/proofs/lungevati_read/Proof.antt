@@ -11,11 +11,11 @@ flat_requires : tie.Need-flat-requires
 flat_requires c κs =
     let read = c.before.before.before.before in
     let bytes = read.before.before.before.before.before in
-    rw read.read.ensures.answers (small bytes.before.args.file.now _ _ (λ i. (bytes.shared-slice-known.given i).fits))
+    rw read.read.ensures.answers (small bytes.args.file.now _ _ (λ i. (bytes.shared_slice_known-1.given i).fits))
 
 returns : tie.Need-returns
 returns c =
-    let read = c.before.before.before.before.before.read.ensures in
+    let read = c.read.ensures in
     record {
       answers = c.flat.ensures ∙ ap flat_of read.answers;
       batch_filled = read.batch_filled;
