@@ -1,15 +1,10 @@
 # shellcheck shell=sh
 # To be sourced, with $top set to the repository: finds the kit that `rt` belongs to, and compiles, links and runs C for
-# x86-64 with nothing else. The same on x86-64 and on Arm, where the kit has an emulator.
+# x86-64 with nothing else.
 kit_find() {
     kit_rt=$(command -v rt) || { echo "$0: no rt in PATH" >&2; exit 2; }
     kit_home=${RATTLE_HOME:-$(cd "$(dirname "$(readlink -f "$kit_rt")")/.." && pwd -P)}
-    kit_own=$kit_home/on/$(uname -m)
-    kit_tools=$kit_own/toolchain
-    kit_emulator=
-    [ ! -x "$kit_tools/bin/qemu-x86_64" ] || kit_emulator=$kit_tools/bin/qemu-x86_64
-    # settings of an emulator elsewhere must not change what ours does
-    for v in $(env | sed -n 's/^\(QEMU_[A-Za-z0-9_]*\)=.*/\1/p'); do unset "$v"; done
+    kit_tools=$kit_home/toolchain
 }
 
 # kit_compile OBJECT SOURCE [FLAG...]: no header of the machine is seen, so that it compiles alike everywhere
@@ -24,21 +19,21 @@ kit_compile() {
 kit_link() {
     kit_program=$1
     shift
-    "$kit_own/bin/rattle-link" --target x86_64-unknown-linux-gnu --toolchain "$kit_tools" -o "$kit_program" "$@" \
+    "$kit_home/bin/rattle-link" --target x86_64-unknown-linux-gnu --toolchain "$kit_tools" -o "$kit_program" "$@" \
         >"$kit_program.log" 2>&1 || { cat "$kit_program.log" >&2; exit 2; }
 }
 
-# kit_run PROGRAM [WORD...]
-kit_run() {
-    # shellcheck disable=SC2086 # no emulator is no word
-    $kit_emulator "$kit_tools/lib/ld-linux-x86-64.so.2" --library-path "$kit_tools/lib" "$@"
-}
+# kit_run PROGRAM [WORD...]: with the kit's own C library, whatever the machine has
+kit_run() { "$kit_tools/lib/ld-linux-x86-64.so.2" --library-path "$kit_tools/lib" "$@"; }
 
-# kit_archives LOG: proves and builds the libraries with the calls of include/lungevati.h, one for each engine; kit_calls is what to link. The gate
+# kit_archive CRATE: proves and builds a static library, which rt leaves in the crate's out/
+kit_archive() { (cd "${top:?}/crates/$1" && rt lib); }
+
+# kit_archives LOG: the libraries with the calls of include/lungevati.h, one for each engine; kit_calls is what to link. The gate
 # has them made once, and says so by LUNGEVATI_ARCHIVES.
 kit_archives() {
-    [ "${LUNGEVATI_ARCHIVES-}" = made ] || (cd "${top:?}" && rt staticlib api && rt staticlib api_table) >"$1" 2>&1 || { cat "$1" >&2; exit 2; }
-    kit_calls="$top/target/staticlib/libapi.a $top/target/staticlib/libapi_table.a"
+    [ "${LUNGEVATI_ARCHIVES-}" = made ] || { kit_archive api && kit_archive api_table; } >"$1" 2>&1 || { cat "$1" >&2; exit 2; }
+    kit_calls="$top/crates/api/out/libapi.a $top/crates/api_table/out/libapi_table.a"
 }
 
 # kit_as ENGINE OBJECT SOURCE [FLAG...]: a checker in C under other names, in the place of the engine plain or table, or of the fast checker; or the
