@@ -3,7 +3,7 @@
 use Prim.Native.Nat.{ℕ, ◌+◌, ◌-◌, ◌≤◌, ◌<◌}
 use native.Mathlib.Omega.{arith}
 use mathlib.Core.Path.{◌≡◌, refl, sym, ap, ◌∙◌}
-use mathlib.Core.Bool.{Bool, true, false, not}
+use mathlib.Core.Bool.{true, false}
 use mathlib.Core.List.{List}
 use lib.ListN.{length}
 use borrow.Author.Tests.{ltb-false, not-true}
@@ -22,7 +22,7 @@ use Rattle.rules.specs.Windows.{Capture, windows_of, fits}
 use Rattle.rules.specs.Uses.{address_at, access_at}
 use Rattle.rules.specs.Addresses.{access_wrong, range_wrong}
 use Rattle.rules.specs.Step.{here, row_at, length_at, dwords_at, past_the_window, range_outside}
-use Rattle.rules.proofs.Searching.{FirstAt, first_found, never_both}
+use Rattle.rules.proofs.Searching.{first_found, never_both}
 use Rattle.rules.proofs.Trying.{fails_not_pass, same_fault, refuse_passes}
 use Rattle.clauses.specs.declared.Detail.TheVariants.{Reach}
 use Rattle.causes.specs.Causes.{reach_of, reach_with, reach_at}

@@ -8,7 +8,7 @@ use mathlib.Core.List.{List, [], ◌∷◌, ◌++◌, append_assoc}
 use mathlib.Core.Logic.{⊎_elim}
 use lib.ListN.{length, take, length-append}
 use lib.Dec.{ltb, eqb, eqb-suc-zero}
-use borrow.Author.Tests.{ltb-true, ltb-false, le-ltb, ne_eqb}
+use borrow.Author.Tests.{ltb-true, le-ltb, ne_eqb}
 use Rattle.rules.proofs.Searching.{either}
 use Rattle.lines.specs.Hexadecimal.{hex_digit, hex_digits}
 use Rattle.lines.specs.Lines.{Line}

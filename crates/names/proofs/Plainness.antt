@@ -2,13 +2,13 @@
 -- Assumes nothing.
 use Prim.Native.Nat.{ℕ, zero, suc, ◌-◌, ◌<◌, ◌≤◌}
 use native.Mathlib.Omega.{arith}
-use mathlib.Core.Path.{◌≡◌, refl, sym, ap, ◌∙◌}
-use mathlib.Core.Bool.{Bool, true, false, not, ◌&&◌, ◌||◌, cond}
+use mathlib.Core.Path.{◌≡◌, refl}
+use mathlib.Core.Bool.{Bool, true, not, ◌&&◌, ◌||◌}
 use mathlib.Core.List.{List, [], ◌∷◌}
 use mathlib.Core.Logic.{⊎_elim}
 use lib.ListN.{get_or}
 use lib.Dec.{leb, ltb, eqb-suc-zero}
-use borrow.Author.Tests.{lt-ltb, leb-true, ltb-true, eq-eqb, ne_eqb}
+use borrow.Author.Tests.{lt-ltb, leb-true, ltb-true}
 use Rattle.rules.specs.Formats.{between}
 use Rattle.rules.proofs.Searching.{either, or_cases, and_left, and_right}
 use Rattle.names.specs.Names.{no_byte, characters, fits, first_fit, standing, standing_on}

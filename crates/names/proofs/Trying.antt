@@ -9,8 +9,7 @@ use mathlib.Core.Bool.{true, false}
 use mathlib.Core.List.{List, [], ◌∷◌}
 use lib.ListN.{length, get_or, drop, drop_of_length-le}
 use lib.Seq.{drop-cons, get_or-drop}
-use borrow.Author.Tests.{eq-eqb, ne_eqb}
-use Rattle.names.specs.Names.{no_byte, characters, fits, first_fit, standing, standing_on}
+use Rattle.names.specs.Names.{no_byte, characters, fits, first_fit, standing}
 
 pub rows : length characters ≡ 15
 unfolding characters

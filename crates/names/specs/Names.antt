@@ -1,5 +1,5 @@
 -- A name as it is shown on one line: characters that can be read stand as they are, every other byte is written out.
-use Rattle.std.specs.Prelude.{ℕ, ◌+◌, ◌-◌, Bool, cond, ◌&&◌, List, [], ◌∷◌, ◌++◌, get_or, eqb}
+use Rattle.std.specs.Prelude.{ℕ, ◌-◌, Bool, cond, ◌&&◌, List, [], ◌∷◌, ◌++◌, get_or, eqb}
 use Rattle.rules.specs.Formats.{between}
 use Rattle.rules.specs.Printout.{bytes}
 use Rattle.lines.specs.Hexadecimal.{hex_digits}

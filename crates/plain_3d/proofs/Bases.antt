@@ -7,7 +7,6 @@ use mathlib.Core.Bool.{Bool, true, false, cond, not, ◌&&◌, or-false, not-not
 use mathlib.Core.List.{List, [], ◌∷◌}
 use lib.ListN.{length, get_or}
 use lib.Dec.{eqb, lit≤, lit<}
-use Rattle.rules.specs.declared.Windows.{Windows}
 use Rattle.rules.specs.declared.Access.TheVariants.{Unused, NoRange}
 use Rattle.rules.specs.declared.Level.TheVariants.{First}
 use Rattle.rules.specs.declared.Reason.TheVariants.{BitNotAllowed, ValueBroken}

@@ -20,7 +20,6 @@ use Rattle.rules.specs.Words.{field}
 use Rattle.rules.specs.Refusals.{batch_window, number_of, fault, refuse_if}
 use Rattle.rules.specs.Commands.{start_row, no_field, exactly, rows, the_row, row_from, row_of, length_of, length_right, row_count}
 use Rattle.rules.specs.Uses.{no_use, access_of}
-use Rattle.rules.specs.Masks.{allowed_of, allowed_at, bit_wrong}
 use Rattle.rules.specs.Values.{no_rule, rule_of}
 use Rattle.rules.specs.Step.{header_at, row_at, nested}
 use Rattle.rules.proofs.Trying.{refuse_passes}

@@ -14,7 +14,7 @@ use borrow.Author.Tests.{eqb-true, eq-eqb, ltb-true, ltb-false, not-false}
 use Rattle.rules.specs.declared.Windows.{Windows}
 use Rattle.rules.specs.declared.Level.{Level}
 use Rattle.rules.specs.Words.{field, cleared, allowed, in_group}
-use Rattle.rules.specs.Commands.{no_field, exactly, Row, rows, row_count, the_row, key_of, row_of, length_of, length_right}
+use Rattle.rules.specs.Commands.{no_field, exactly, rows, row_count, the_row, key_of, row_of, length_of, length_right}
 use Rattle.rules.specs.Uses.{no_use, access_of, access_at}
 use Rattle.rules.specs.Masks.{header_mask, allowed_of, allowed_at, bit_wrong}
 use Rattle.rules.specs.Values.{no_rule, rule_of, high_wrong, value_wrong_of, value_wrong}

@@ -12,7 +12,7 @@ use lib.Seq.{drop-cons, take-suc, length-sets}
 use lib.Dec.{ltb}
 use borrow.Author.Tests.{lt-ltb, le-ltb}
 use Rattle.rules.specs.declared.Command.{Command}
-use Rattle.rules.specs.Records.{command_of, commands_in, room_of}
+use Rattle.rules.specs.Records.{commands_in, room_of}
 use Rattle.rules.specs.Printout.{command_line, command_lines, record_line}
 use Rattle.rules.proofs.Listing.{commands_counted, command_at_lem, room_is}
 use Rattle.lines.specs.Lines.{Put}

@@ -12,7 +12,7 @@ use Rattle.rules.specs.declared.BaseChoice.TheVariants.{StateWindow, NoBase}
 use Rattle.rules.specs.declared.Fault.{Fault}
 use Rattle.rules.specs.declared.Verdict.{Verdict}
 use Rattle.rules.specs.declared.Verdict.TheVariants.{Pass, Fails}
-use Rattle.rules.specs.Refusals.{AllPass, FirstFault, number_of, answer_with, first_fault}
+use Rattle.rules.specs.Refusals.{number_of, answer_with, first_fault}
 use Rattle.rules.specs.Windows.{Capture}
 use Rattle.rules.specs.Walk.{Run, starting_base, walk, commands_of, end_of, answer_of}
 use Rattle.rules.specs.Records.{room_of, written_of, CheckedFrom}

@@ -1,12 +1,12 @@
 -- What is written is read back, and any command is written back: from the promise of `writer::write`, the only hypothesis; and one answer only.
 -- Assumes nothing.
-use Prim.Native.Nat.{ℕ, zero, suc, ◌+◌, ◌^◌, ◌≤◌, ◌<◌}
+use Prim.Native.Nat.{ℕ, ◌+◌, ◌≤◌, ◌<◌}
 use native.Mathlib.Omega.{arith}
 use mathlib.Core.Path.{◌≡◌, refl, sym, ap, ◌∙◌}
-use mathlib.Core.Bool.{true, not}
+use mathlib.Core.Bool.{true}
 use mathlib.Core.List.{List, [], ◌∷◌, ◌++◌}
 use lib.ListN.{length, get_or, take, drop, length-append, length-drop}
-use lib.Seq.{take-length, take_at, drop_at, get_or-drop, length-take-le, take-append_seam}
+use lib.Seq.{take-length, drop_at, get_or-drop, length-take-le, take-append_seam}
 use borrow.Author.Tests.{leb-false, lt-leb, le-ltb, not-false}
 use Rattle.rules.specs.declared.Answer.{Answer}
 use Rattle.rules.specs.declared.Cursor.{Cursor}
@@ -22,8 +22,8 @@ use Rattle.rules.specs.Step.{here, header_at, row_at, length_at, dwords_at, unkn
 use Rattle.rules.specs.Writer.{Draft, draft, header_for, command_for, write_verdict, write_count, written_by, Written}
 use Rattle.rules.proofs.Trying.{refuse_passes, search_clear}
 use Rattle.rules.proofs.Unique.{above_zero}
-use Rattle.rules.proofs.Writing.{row_known, has_room, header, header_row, header_free, header_long, header_right, all_kept, freed, written_header, written_back}
-use Rattle.promises.specs.Writer.{free_bits, ReadBack, alone_in, OneCommand, WrittenBack}
+use Rattle.rules.proofs.Writing.{row_known, has_room, header, header_row, header_free, header_long, header_right, all_kept, written_header, written_back}
+use Rattle.promises.specs.Writer.{free_bits, ReadBack, OneCommand, WrittenBack}
 
 -- the words of a buffer in which a command was put
 abbrev put : List ℕ → ℕ → List ℕ → List ℕ

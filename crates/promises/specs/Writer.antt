@@ -1,6 +1,6 @@
 -- THE WRITER. "What it writes, the reader reads back as the same row and dwords; any command that passes checks 7, 8 and 10 is written back to the same
 -- dwords." (request 4) Both are said of every row at once; the reader is the checker's own decoder, which finds a command's row, length and dwords.
-use Rattle.std.specs.Prelude.{ℕ, ◌+◌, ◌^◌, ◌<◌, ◌≡◌, List, [], ◌∷◌, length, get_or, take, drop}
+use Rattle.std.specs.Prelude.{ℕ, ◌+◌, ◌^◌, ◌<◌, ◌≡◌, List, [], ◌∷◌, length, take, drop}
 use Rattle.std.specs.Int.Bits.{bit_and}
 use Rattle.rules.specs.declared.Answer.{Answer}
 use Rattle.rules.specs.declared.Base.TheVariants.{Unset}

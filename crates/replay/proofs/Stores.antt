@@ -14,7 +14,7 @@ use borrow.Author.Tests.{leb-true, ltb-true, eqb-true, le-leb, lt-ltb, eq-eqb}
 use Rattle.rules.specs.declared.Window.{Window}
 use Rattle.rules.specs.Windows.{Capture, lent, Inside, windows_of, listed, share_byte}
 use Rattle.rules.proofs.Searching.{either, never_both, and_left, and_right}
-use Rattle.rules.proofs.Ranges.{inside, Sound, no_window, no_two_at, both_share}
+use Rattle.rules.proofs.Ranges.{Sound, no_window, no_two_at, both_share}
 use Rattle.replay.specs.Streamer.{Machine, machine, Effect, word_at, scratch_word, place_of, store_to, store_words}
 use Rattle.replay.specs.Conduct.{map_of, InScratch, AllInScratch}
 

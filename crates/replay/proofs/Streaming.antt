@@ -19,7 +19,7 @@ use Rattle.rules.proofs.Trying.{fails_not_pass}
 use Rattle.rules.proofs.Ranges.{Sound, sound}
 use Rattle.rules.proofs.Moving.{first_keeps_none}
 use Rattle.rules.proofs.Walking.{walk_sound, accepted_sound}
-use Rattle.replay.specs.Streamer.{Map, Machine, machine, Step, goes, ends, fails, Hardware, step}
+use Rattle.replay.specs.Streamer.{Map, Machine, Step, goes, ends, fails, Hardware, step}
 use Rattle.replay.specs.Runs.{Moment, moment, more, run, after_all}
 use Rattle.replay.specs.Conduct.{map_of, at_start, AllFair, AllReturn}
 use Rattle.replay.proofs.Stores.{some_not_none}

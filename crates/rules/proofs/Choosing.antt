@@ -3,7 +3,7 @@
 use Prim.Native.Nat.{ℕ, zero, suc, ◌+◌}
 use mathlib.Core.Path.{◌≡◌, refl, sym, ap, ◌∙◌}
 use mathlib.Core.Bool.{Bool, true, false, cond, ◌&&◌}
-use mathlib.Core.List.{List, [], ◌∷◌, ◌++◌}
+use mathlib.Core.List.{List, [], ◌∷◌}
 use mathlib.Core.Logic.{◌⊎◌, inl, inr, ⊎_elim}
 use lib.ListN.{get_or}
 use lib.Dec.{eqb}
@@ -15,8 +15,7 @@ use Rattle.rules.specs.declared.Level.TheVariants.{First, Second}
 use Rattle.rules.specs.declared.After.{After}
 use Rattle.rules.specs.declared.After.TheVariants.{Ends, To}
 use Rattle.rules.specs.declared.Fault.{Fault}
-use Rattle.rules.specs.declared.Outcome.{Outcome}
-use Rattle.rules.specs.declared.Outcome.TheVariants.{Taken, Refused}
+use Rattle.rules.specs.declared.Outcome.TheVariants.{Taken}
 use Rattle.rules.specs.declared.Pointer.{Pointer}
 use Rattle.rules.specs.declared.Pointer.TheVariants.{NoPointer, PointsTo}
 use Rattle.rules.specs.declared.Reason.TheVariants.{BaseNeverSet}
@@ -31,7 +30,7 @@ use Rattle.rules.specs.Structures.{structure_nowhere, structure_bit, structure_v
 use Rattle.rules.specs.Step.{Here, here, row_at, length_at, dwords_at, pointer_of, of_structure, cursor, after_end, level_after_start, new_base, base_after, move_of, command_at}
 use Rattle.rules.specs.Step.{ran_off, unknown_header, wrong_length, past_the_window, bit_not_allowed, nested_start, value_broken, range_outside}
 use Rattle.rules.specs.Step.{base_never_set, step_checks, budget, step_of, outcome_of}
-use Rattle.rules.specs.Walk.{Run, ended, then, trace, cut, walk, end_of}
+use Rattle.rules.specs.Walk.{Run, then, trace, cut, walk, end_of}
 use Rattle.rules.proofs.Trying.{stays_failed, tried_append}
 use Rattle.rules.proofs.Walking.{walk_sound, walk_unsound}
 

@@ -5,19 +5,19 @@ use native.Mathlib.Nat.{div-add-mod', div-le_self, mul-le-mul_right, mod-lt, zer
 use native.Mathlib.Omega.{arith}
 use mathlib.Core.Path.{◌≡◌, refl, sym, ap, ◌∙◌}
 use mathlib.Core.Bool.{Bool, true, false, cond, not, ◌&&◌, ◌||◌, and-false}
-use mathlib.Core.List.{List, [], ◌∷◌, ◌++◌}
+use mathlib.Core.List.{List, ◌∷◌}
 use mathlib.Core.Logic.{⊎_elim}
 use lib.Arith.{bin_ind}
 use lib.Bits.{bit_and, and_high, and_step, and_zero_l}
-use lib.ListN.{length, get_or, take, drop}
-use lib.Dec.{leb, ltb, eqb, lit<}
+use lib.ListN.{length}
+use lib.Dec.{leb, eqb, lit<}
 use borrow.Author.Tests.{eqb-true, eqb-false, eq-eqb, ne_eqb, leb-true, leb-false, lt-leb, le-ltb, ltb-false, not-false}
 use Rattle.rules.specs.declared.Answer.{Answer}
 use Rattle.rules.specs.declared.Verdict.TheVariants.{Pass}
 use Rattle.rules.specs.declared.Found.TheVariants.{Nothing}
 use Rattle.rules.specs.Words.{bit, field, allowed, first_from, first_of}
 use Rattle.rules.specs.Refusals.{AllPass}
-use Rattle.rules.specs.Commands.{Length, no_field, exactly, by_bit, groups, Row, row_count, rows, the_row, group_size, field_right, length_right, dword_count, row_of, length_of}
+use Rattle.rules.specs.Commands.{Length, no_field, exactly, by_bit, groups, row_count, rows, the_row, group_size, field_right, length_right, dword_count, row_of, length_of}
 use Rattle.rules.specs.Masks.{field_bits, header_mask, bit_wrong}
 use Rattle.rules.specs.Writer.{Draft, draft, count_right, field_for, header_for, command_for, some_from, row_unknown, count_wrong, bit_stray, room_short, write_checks, write_verdict, Written}
 use Rattle.rules.proofs.Searching.{either, never_both, and_left, and_right, some_left, some_right, search_passes, none_found, finds_none}

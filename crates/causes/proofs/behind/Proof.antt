@@ -1,9 +1,7 @@
 -- `behind` meets its contract: the numbers of a record are small, so that their sum fits.
 -- Assumes nothing.
 use borrow.Author.Rules.{rules}
-use mathlib.Core.Path.{ap}
 use native.Mathlib.Omega.{arith}
-use Rattle.rules.specs.declared.Command.{Command}
 use Rattle.causes.proofs.Leading.{record_index, record_length}
 use Rattle.causes.proofs.behind.Statement.{statement}
 use Rattle.causes.proofs.behind.Tie as tie

@@ -1,7 +1,6 @@
 -- `detail_at` meets its contract: it makes the tests that the definition makes.
 -- Assumes nothing.
 use borrow.Author.Rules.{rules}
-use mathlib.Core.Path.{sym, ◌∙◌}
 use borrow.Author.Tests.{eq-eqb, ne_eqb}
 use Rattle.causes.specs.Causes.{detail_at}
 use Rattle.causes.proofs.detail_at.Statement.{statement}

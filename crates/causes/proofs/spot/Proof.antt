@@ -3,7 +3,7 @@
 use borrow.Author.Rules.{rules}
 use Prim.Native.Nat.{◌-◌}
 use native.Mathlib.Nat.{mod-zero, mod-le}
-use borrow.Author.Tests.{eq-eqb, ne_eqb}
+use borrow.Author.Tests.{ne_eqb}
 use Rattle.rules.specs.Words.{in_group}
 use Rattle.causes.proofs.spot.Statement.{statement}
 use Rattle.causes.proofs.spot.Tie as tie

@@ -21,5 +21,5 @@ returns_2 c =
 pub put_base_word_spec : {M : Type 1} → statement M
 put_base_word_spec =
     tie.close
-    (tie.spec (λ c. search rules) (λ c κs. search rules) (λ c. search rules) 
+    (tie.spec (λ c. search rules) (λ c κs. search rules) (λ c. search rules)
     (λ c κs. search rules) (λ c. search rules) returns (λ c. search rules) returns_2)

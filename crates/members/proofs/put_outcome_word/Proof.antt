@@ -39,7 +39,7 @@ returns_5 c =
 pub put_outcome_word_spec : {M : Type 1} → statement M
 put_outcome_word_spec =
     tie.close
-    (tie.spec (λ c. search rules) (λ c κs. search rules) (λ c. search rules) 
+    (tie.spec (λ c. search rules) (λ c κs. search rules) (λ c. search rules)
     (λ c κs. search rules) (λ c. search rules) (λ c κs. search rules) (λ c. search rules)
     (λ c κs. search rules) (λ c. search rules) (λ c κs. search rules)
     (λ c. search rules) returns (λ c. search rules) returns_2 (λ c. search rules) returns_3 (λ c. search rules) returns_4

@@ -1,10 +1,9 @@
 -- `onward::move_of` meets its contract: the rows that change nothing, an end, a start, and all others.
 -- Assumes nothing.
 use native.Mathlib.Omega.{arith}
-use lib.Dec.{eqb}
 use Rattle.rules.specs.Step.{base_after}
 use Rattle.onward.specs.Onward.{move_from}
-use borrow.Author.Tests.{eq-eqb, ne_eqb, not-true}
+use borrow.Author.Tests.{eq-eqb, ne_eqb}
 use borrow.Author.Rules.{rules}
 use Rattle.onward.proofs.move_of.Statement.{statement}
 use Rattle.onward.proofs.move_of.Tie as tie

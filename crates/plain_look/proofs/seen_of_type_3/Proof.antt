@@ -9,7 +9,7 @@ use lib.Dec.{lit<}
 use borrow.Author.Rules.{rules}
 use Rattle.rules.specs.declared.Level.TheVariants.{First}
 use Rattle.rules.specs.Commands.{rows, row_count, the_row, row_from, row_of, length_of, length_right}
-use Rattle.rules.specs.Uses.{no_use, uses_by_row, access_of}
+use Rattle.rules.specs.Uses.{uses_by_row, access_of}
 use Rattle.rules.specs.Values.{value_rules, rule_of}
 use Rattle.rules.specs.Step.{header_at, row_at}
 use Rattle.rules.proofs.Keys.{unknown_3}

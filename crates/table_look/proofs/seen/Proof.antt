@@ -3,15 +3,14 @@
 use borrow.Author.Rules.{rules}
 use Prim.Native.Nat.{ℕ, ◌+◌, ◌-◌, ◌≤◌, ◌<◌}
 use mathlib.Core.Bool.{true}
-use mathlib.Core.Path.{◌≡◌, refl, sym, ap, ◌∙◌}
+use mathlib.Core.Path.{◌≡◌, refl, sym, ◌∙◌}
 use mathlib.Core.List.{List}
 use native.Mathlib.Omega.{arith}
 use lib.ListN.{length}
 use lib.Dec.{ltb}
-use Rattle.rules.specs.Refusals.{batch_window, fault}
 use Rattle.rules.specs.Commands.{length_right, row_count}
 use Rattle.rules.specs.Step.{header_at, row_at, length_at, dwords_at}
-use Rattle.looks.specs.declared.Look.TheVariants.{Whole, Wrong}
+use Rattle.looks.specs.declared.Look.TheVariants.{Whole}
 use Rattle.looks.specs.Looks.{content_of}
 use Rattle.looks.proofs.LookLaws.{content_look, whole_look}
 use Rattle.table_look.proofs.Contents.{length_is, right_is, content_same, unfit_look, right_passed, long_passed, whole_part, part_below}

@@ -2,7 +2,7 @@
 -- Assumes nothing.
 use native.Mathlib.Nat.{div-one}
 use mathlib.Core.Path.{sym, ◌∙◌}
-use borrow.Author.Tests.{eq-eqb, ne_eqb, not-true, not-false}
+use borrow.Author.Tests.{eq-eqb, ne_eqb}
 use borrow.Author.Rules.{rules}
 use Rattle.uses.proofs.base_use.Statement.{statement}
 use Rattle.uses.proofs.base_use.Tie as tie

@@ -1,6 +1,6 @@
 -- `uses::low_used` meets its contract: an arm for each row of the table, and none past it.
 -- Assumes nothing.
-use mathlib.Core.Path.{ap, sym, ◌∙◌}
+use mathlib.Core.Path.{ap, ◌∙◌}
 use Rattle.rules.specs.Commands.{row_count}
 use Rattle.rules.specs.Uses.{uses_by_row, access_of, is_used}
 use Rattle.rows.proofs.RowLaws.{past}

@@ -5,7 +5,7 @@ use native.Mathlib.Omega.{arith}
 use mathlib.Core.Path.{◌≡◌, ap, sym, ◌∙◌}
 use borrow.Author.Rules.{rules}
 use Rattle.rules.specs.Commands.{the_row, group_size}
-use Rattle.rules.specs.Writer.{field_for, header_for}
+use Rattle.rules.specs.Writer.{header_for}
 use Rattle.rules.proofs.Writing.{made_small, field_of_count, counts_small}
 use Rattle.writer.proofs.header_for.Statement.{statement}
 use Rattle.writer.proofs.header_for.Tie as tie

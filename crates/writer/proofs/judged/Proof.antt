@@ -1,10 +1,9 @@
 -- `writer::judged` meets its contract: the checks in their order, each with its own question.
 -- Assumes nothing.
-use Prim.Native.Nat.{ℕ, ◌+◌, ◌≤◌, ◌<◌}
-use native.Mathlib.Omega.{arith}
+use Prim.Native.Nat.{ℕ, ◌<◌}
 use mathlib.Core.Path.{◌≡◌, sym, ap, ◌∙◌}
-use mathlib.Core.Bool.{Bool, true, false, not, ◌||◌}
-use mathlib.Core.List.{List, [], ◌∷◌}
+use mathlib.Core.Bool.{true, false, not}
+use mathlib.Core.List.{[], ◌∷◌}
 use lib.ListN.{length}
 use borrow.Author.Rules.{rules}
 use borrow.Author.Tests.{le-leb, lt-leb, not-true, not-false}
@@ -14,7 +13,7 @@ use Rattle.rules.specs.Words.{allowed}
 use Rattle.rules.specs.Refusals.{fault, batch_window}
 use Rattle.rules.specs.Commands.{row_count, the_row, group_size}
 use Rattle.rules.specs.Masks.{bit_wrong}
-use Rattle.rules.specs.Writer.{Draft, draft, count_right, header_for, command_for, some_from, row_unknown, count_wrong, bit_stray, room_short, write_checks}
+use Rattle.rules.specs.Writer.{Draft, draft, count_right, command_for, some_from, row_unknown, count_wrong, bit_stray, room_short, write_checks}
 use Rattle.rules.proofs.Trying.{fails_first, no_fault}
 use Rattle.rules.proofs.Writing.{counts_small}
 use Rattle.writer.proofs.WriterLaws.{no_group}

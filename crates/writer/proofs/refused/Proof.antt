@@ -1,6 +1,5 @@
 -- `writer::refused` meets its contract: the number of the reason, and place 0,0.
 -- Assumes nothing.
-use mathlib.Core.Path.{sym}
 use borrow.Author.Rules.{rules}
 use Rattle.rules.specs.Refusals.{answer_with}
 use Rattle.writer.proofs.refused.Statement.{statement}

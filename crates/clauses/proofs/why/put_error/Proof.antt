@@ -26,5 +26,5 @@ returns_2 c =
 pub put_error_spec : {M : Type 1} → statement M
 put_error_spec =
     tie.close
-    (tie.spec (λ c κs. search rules) (λ c κs. search rules) (λ c. search rules) returns 
+    (tie.spec (λ c κs. search rules) (λ c κs. search rules) (λ c. search rules) returns
     (λ c κs. search rules) (λ c κs. search rules) (λ c. search rules) returns_2)

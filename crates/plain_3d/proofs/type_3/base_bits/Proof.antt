@@ -1,7 +1,6 @@
 -- `plain_3d::type_3::base_bits` meets its contract: four dwords after the other, the high dwords by whether their base is used.
 -- Assumes nothing.
 use Prim.Native.Nat.{ℕ, ◌-◌}
-use native.Mathlib.Omega.{arith}
 use mathlib.Core.Path.{◌≡◌, refl, ◌∙◌}
 use mathlib.Core.List.{List}
 use lib.ListN.{get_or}

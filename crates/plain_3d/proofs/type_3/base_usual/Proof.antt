@@ -4,7 +4,6 @@ use mathlib.Core.Path.{◌≡◌, refl, sym, ◌∙◌}
 use mathlib.Core.Bool.{Bool, ◌&&◌}
 use lib.ListN.{get_or}
 use borrow.Author.Rules.{rules}
-use borrow.Author.Tests.{not-true, not-false}
 use Rattle.rules.specs.Words.{allowed}
 use Rattle.plain_shared.proofs.Tests.{fails, holds}
 use Rattle.plain_3d.specs.Usual.{all_keep, low_dwords, high_dwords, last_dwords, usual_base}

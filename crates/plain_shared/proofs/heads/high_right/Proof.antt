@@ -2,7 +2,6 @@
 -- Assumes nothing.
 use mathlib.Core.Bool.{not-not}
 use borrow.Author.Rules.{rules}
-use borrow.Author.Tests.{not-true, not-false}
 use Rattle.plain_shared.proofs.heads.high_right.Statement.{statement}
 use Rattle.plain_shared.proofs.heads.high_right.Tie as tie
 

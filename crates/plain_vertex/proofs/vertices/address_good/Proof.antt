@@ -3,7 +3,6 @@
 -- Assumes nothing.
 use mathlib.Core.Path.{sym, ◌∙◌}
 use borrow.Author.Rules.{rules}
-use borrow.Author.Tests.{not-true, not-false}
 use Rattle.plain_vertex.proofs.vertices.address_good.Statement.{statement}
 use Rattle.plain_vertex.proofs.vertices.address_good.Tie as tie
 

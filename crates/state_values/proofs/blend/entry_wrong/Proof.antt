@@ -1,9 +1,8 @@
 -- `state_values::blend::entry_wrong` meets its contract: the definition's tests, in its order.
 -- Assumes nothing.
 use mathlib.Core.Path.{sym, ◌∙◌}
-use mathlib.Core.Bool.{and-false}
 use borrow.Author.Rules.{rules}
-use borrow.Author.Tests.{ne_eqb, eq-eqb, not-true, not-false}
+use borrow.Author.Tests.{ne_eqb, eq-eqb}
 use Rattle.rules.specs.Structures.{entry_wrong}
 use Rattle.state_values.proofs.blend.entry_wrong.Statement.{statement}
 use Rattle.state_values.proofs.blend.entry_wrong.Tie as tie

@@ -2,7 +2,6 @@
 -- Assumes nothing.
 use mathlib.Core.Path.{sym, ◌∙◌}
 use borrow.Author.Rules.{rules}
-use borrow.Author.Tests.{not-true, not-false}
 use Rattle.state_values.proofs.blend.functions_named.Statement.{statement}
 use Rattle.state_values.proofs.blend.functions_named.Tie as tie
 
