@@ -12,6 +12,7 @@ use std::io::{ErrorKind, Write};
 const WORDS_BYTES: usize = 256;
 
 // Where a program writes what it was asked for, and where it says what failed.
+#[derive(Drop)]
 pub struct Outputs<O, E> {
     pub printout: O,
     pub messages: E,
