@@ -3,6 +3,8 @@ ghost use Rattle.std.specs.Prelude.{◌≤◌, length};
 
 use crate::sayings;
 use rules::{Answer, BaseChoice};
+use std::io;
+use std::io::Write;
 
 // Room in each window: more dwords than are accepted, and than a line has.
 pub(crate) const ROOM: u32 = 0x1_0100;
@@ -72,7 +74,7 @@ fn address(place: u32, words: &[u32; WORDS]) -> u64 {
 }
 
 // The addresses of the capture's windows, and the bytes of scratch.
-#[derive(Drop)]
+#[derive(Clone, Copy)]
 struct Places {
     batch: u64,
     state: u64,
@@ -156,12 +158,13 @@ fn by_rules<'a>(
 
 // Asks both engines about the capture that the words make, with no more lent to them than the capture has. Where they do not answer alike, both
 // answers are printed; aloud, the answer is, and every record word lent.
-pub(crate) fn ask(
+pub(crate) fn ask<W: Write>(
+    out: &mut W,
     aloud: bool,
     words: &[u32; WORDS],
     records: &mut [u32; LENT],
     twin: &mut [u32; LENT],
-) -> Answer {
+) -> io::Result<Answer> {
     let all: &[u32] = words;
     let room = ROOM as usize;
     let dwords = at_most(room, BATCH_DWORDS, words);
@@ -174,10 +177,10 @@ pub(crate) fn ask(
     unwrite(twin, lent);
     let answer = by_table(batch, state, at, records, lent);
     let plainly = by_rules(batch, state, at, twin, lent);
-    sayings::unlike(answer, plainly, alike(records, twin, lent));
+    sayings::unlike(out, answer, plainly, alike(records, twin, lent))?;
     if aloud {
-        sayings::answer(answer);
-        sayings::words(records, get(RECORD_WORDS, words));
+        sayings::answer(out, answer)?;
+        sayings::words(out, records, get(RECORD_WORDS, words))?;
     }
-    answer
+    Ok(answer)
 }
