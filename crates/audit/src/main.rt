@@ -12,7 +12,7 @@ use json_lines::Totals;
 use lines::{LINE_BYTES, NAME_BYTES, put_text};
 use members::{Number, Outcome};
 use outside::output::{Outputs, tell_failure};
-use outside::{descriptors, files, input, words};
+use outside::{arguments, descriptors, files, input};
 use reports::{ACCEPTED, MOST_BYTES, REFUSED, UNREAD, base_choice, has_letter};
 use rules::{Answer, BaseChoice, Opened};
 use sentences::WORDS_BYTES;
@@ -105,7 +105,7 @@ fn wish_of(word: &[u8]) -> Wish {
 
 fn asked(env: &impl Env) -> Wish {
     let mut word = [0u8; WORD_BYTES];
-    let n = words::whole(env, 1, &mut word);
+    let n = arguments::whole(env, 1, &mut word);
     wish_of(&word[..n])
 }
 
@@ -654,7 +654,7 @@ fn with_name<O: Write, E: Write>(
 fn argument(env: &impl Env, i: usize, entry: &mut [u8; ENTRY]) -> usize
     ensures { result ≤ length entry.new }
 {
-    words::front(env, i, entry)
+    arguments::front(env, i, entry)
 }
 
 // The captures that arguments name.
@@ -862,7 +862,7 @@ fn main(rt: HostRuntime) {
             &mut reasons,
         )
     } else {
-        let count = words::count(&rt);
+        let count = arguments::count(&rt);
         audit_arguments(
             &rt,
             &mut to,

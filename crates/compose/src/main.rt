@@ -14,7 +14,7 @@ use crate::reading::{
 };
 use lines::{LINE_BYTES, NAME_BYTES, put_byte, put_hex};
 use outside::output::{Outputs, tell_failure, write_all};
-use outside::{descriptors, files, words};
+use outside::{arguments, descriptors, files};
 use reports::{ACCEPTED, REFUSED, UNREAD};
 use std::io;
 use std::io::{Read, Write};
@@ -270,7 +270,7 @@ fn compose_file<R: Files, O: Write, E: Write>(
 fn compose_argument<R: Env + Files, O: Write, E: Write>(system: &R, to: &mut Outputs<O, E>) -> u8 {
     let mut text = [0u8; NAME_BYTES];
     let mut name = [0u8; PIECE_BYTES];
-    let n = words::front(system, 1, &mut name);
+    let n = arguments::front(system, 1, &mut name);
     compose_file(system, to, part(&name, n), 1, &mut text)
 }
 
@@ -279,7 +279,7 @@ fn main(rt: HostRuntime) {
         printout: rt.stdout(),
         messages: rt.stderr(),
     };
-    let status = if words::count(&rt) < 2 {
+    let status = if arguments::count(&rt) < 2 {
         compose_input(&mut to, &mut rt.stdin(), b"standard input")
     } else {
         compose_argument(&rt, &mut to)

@@ -5,15 +5,15 @@
 // has lines of its own, which a program in C obeys (tests/reader).
 #![tactic(auto)]
 
+mod buffers;
 mod obey;
 mod reading;
 mod sayings;
 mod scans;
-mod windows;
 
+use crate::buffers::{LENT, WORDS};
 use crate::obey::take;
 use crate::reading::begun;
-use crate::windows::{LENT, WORDS};
 use std::io;
 use std::io::Read;
 

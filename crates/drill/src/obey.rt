@@ -1,8 +1,8 @@
 // What each line asks for. Its first letter decides.
+use crate::buffers::{BATCH_DWORDS, LENT, ROOM, WORDS, ask, set};
 use crate::reading::{Reading, begun, feed, place_of};
 use crate::sayings;
 use crate::scans::scan;
-use crate::windows::{BATCH_DWORDS, LENT, ROOM, WORDS, ask, set};
 use std::io;
 use std::io::Write;
 use std::num::wrapping_sub_u32;

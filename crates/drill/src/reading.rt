@@ -1,5 +1,5 @@
 // Reading a line: its first letter, its hexadecimal numbers, and `[..]n` for what stands n times.
-use crate::windows::{ARGUMENTS, END, NUMBERS, RECORD_WORDS, STATE, WORDS, get, set};
+use crate::buffers::{ARGUMENTS, END, NUMBERS, RECORD_WORDS, STATE, WORDS, get, set};
 use std::num::{wrapping_add_u32, wrapping_sub_u32};
 
 // What has been read of a line: its first byte (a line feed, as long as there is none), where its next number goes, where the last bracket

@@ -1,5 +1,5 @@
 // What the program prints: answers in decimal, as document 01's printout has them, and everything else in hexadecimal.
-use crate::windows::LENT;
+use crate::buffers::LENT;
 use rules::Answer;
 use std::io;
 use std::io::Write;
@@ -84,10 +84,8 @@ fn word<W: Write>(out: &mut W, i: u32, x: u32, before: u64) -> io::Result<u64> {
 // The first n words of a buffer, those that are alike together. No word comes before the first.
 pub(crate) fn words<W: Write>(out: &mut W, all: &[u32; LENT], n: u32) -> io::Result<()> {
     let mut before: u64 = 0x1_0000_0000;
-    let mut i: u32 = 0;
-    while i < n && i < LENT as u32 {
+    for i in 0..n.min(LENT as u32) {
         before = word(out, i, all[i as usize], before)?;
-        i += 1;
     }
     last(out, n)
 }

@@ -1,7 +1,7 @@
 // The dword that a line names is varied, the checker is asked each time, and an answer is printed where it is not the one before it.
+use crate::buffers::{ARGUMENTS, LENT, QUESTION_NUMBERS, ROOM, UNWRITTEN, WORDS, ask, get, set};
 use crate::reading::pick;
 use crate::sayings;
-use crate::windows::{ARGUMENTS, LENT, QUESTION_NUMBERS, ROOM, UNWRITTEN, WORDS, ask, get, set};
 use rules::Answer;
 use std::io;
 use std::io::Write;
@@ -65,13 +65,11 @@ fn ask_each<W: Write>(
         count: 0,
     };
     let mut x = stood;
-    let mut v = 0;
-    while v < n {
+    for v in 0..n {
         x = value(letter, v, x, stood, words);
         set(place, x, &mut varied);
         let answer = ask(out, false, &varied, records, twin)?;
         before = sayings::found(out, x, answer, before)?;
-        v += 1;
     }
     Ok(x)
 }

@@ -7,7 +7,7 @@ ghost use Rattle.lines.specs.Lines.{name_bytes};
 
 use lines::{NAME_BYTES, put_text};
 use outside::output::{Outputs, tell_failure, write_all};
-use outside::{descriptors, files, input, words};
+use outside::{arguments, descriptors, files, input};
 use reports::{ACCEPTED, MOST_BYTES, REFUSED, UNREAD, base_choice, worse};
 use rules::{Answer, BaseChoice};
 use std::io;
@@ -44,7 +44,7 @@ struct Input {
 // The base that captures are to be judged by.
 fn asked(env: &impl Env) -> BaseChoice {
     let mut word = [0u8; ARGUMENT_BYTES];
-    let n = words::whole(env, 1, &mut word);
+    let n = arguments::whole(env, 1, &mut word);
     base_choice(&word[..n])
 }
 
@@ -314,7 +314,7 @@ where
     R::File: IsTerminal,
 {
     let mut name = [0u8; ARGUMENT_BYTES];
-    let n = words::front(system, i, &mut name);
+    let n = arguments::front(system, i, &mut name);
     answer_file(
         system,
         to,
@@ -381,7 +381,7 @@ fn main(rt: HostRuntime) {
     let mut state = [0u32; 4096];
     let mut records = [0u32; RECORD_WORDS];
     let mut bytes = [0u8; MOST_BYTES];
-    let count = words::count(&rt);
+    let count = arguments::count(&rt);
     let status = if count < 3 {
         answer_input(
             &mut to,

@@ -2,8 +2,8 @@
 // failure, and the descriptors that the launcher opens for them. No error is lost here: what a call makes of one is the program's to say.
 #![tactic(auto)]
 
+pub mod arguments;
 pub mod descriptors;
 pub mod files;
 pub mod input;
 pub mod output;
-pub mod words;

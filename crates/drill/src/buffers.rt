@@ -93,21 +93,17 @@ fn places_of(words: &[u32; WORDS]) -> Places {
 
 // Makes the first n words of a buffer such as nobody has written: no others are lent.
 fn unwrite(all: &mut [u32; LENT], n: usize) {
-    let mut i = 0;
-    while i < n && i < LENT {
+    for i in 0..n.min(LENT) {
         all[i] = UNWRITTEN;
-        i += 1;
     }
 }
 
 // Whether two buffers have the same first n words.
 fn alike(a: &[u32; LENT], b: &[u32; LENT], n: usize) -> bool {
-    let mut i = 0;
-    while i < n && i < LENT {
+    for i in 0..n.min(LENT) {
         if a[i] != b[i] {
             return false;
         }
-        i += 1;
     }
     true
 }
