@@ -2,25 +2,27 @@
 // the captures that are accepted, s for names that come on descriptor 5, n to start with no base; the other arguments are names.
 #![tactic(auto)]
 
-ghost use Rattle.std.specs.Prelude.{◌≡◌, ◌<◌, ◌≤◌, length, take};
+ghost use Rattle.std.specs.Prelude.{◌≡◌, ◌<◌, ◌≤◌, length, take, IfOk};
 ghost use Rattle.lines.specs.Lines.{name_bytes};
 ghost use Rattle.members.specs.Strings.{quoted};
 
 use causes::cause;
 use clauses::{Detail, Unread};
 use json_lines::Totals;
-use libc::{SEEK_END, STDOUT_FILENO};
 use lines::{LINE_BYTES, NAME_BYTES, put_text};
 use members::{Number, Outcome};
+use outside::output::{Outputs, tell_failure};
+use outside::{arguments, descriptors, files, input};
 use reports::{ACCEPTED, MOST_BYTES, REFUSED, UNREAD, base_choice, has_letter};
 use rules::{Answer, BaseChoice, Opened};
 use sentences::WORDS_BYTES;
+use std::io;
+use std::io::{ErrorKind, IsTerminal, Read, Seek, SeekFrom, Write};
 use std::num::wrapping_add_u64;
+use std::rt::{Env, Files};
 
-// Where names can come from, and where the status is told.
-const NAMES: i32 = 5;
-
-const REPORT: i32 = 3;
+// The room for the word of letters: a longer one has none.
+const WORD_BYTES: usize = 4096;
 
 // Of a name in the file of names: its letter, as many bytes as the longest path has and one more, and its NUL.
 const ENTRY: usize = 4098;
@@ -34,13 +36,24 @@ const RECORD_WORDS: usize = 8192;
 // Reasons by their numbers, 1 to 22.
 const REASONS: usize = 23;
 
+// The system's numbers for why it does not give a file.
+const NO_ENTRY: i32 = 2;
+
+const NO_ACCESS: i32 = 13;
+
+const NO_FOLDER: i32 = 20;
+
+const IS_FOLDER: i32 = 21;
+
+const NAME_TOO_LONG: i32 = 36;
+
 // The kinds of findings beside those of `reports`.
 const MISSING: u8 = 3;
 
 const UNLISTED: u8 = 4;
 
 // How the lines are to be, whether names come on a descriptor, and the base that captures are judged by.
-#[derive(Drop)]
+#[derive(Clone, Copy)]
 struct Wish {
     json: bool,
     quiet: bool,
@@ -49,7 +62,7 @@ struct Wish {
 }
 
 // The answer for a capture, the dword at its place, what happened there, and the file's size.
-#[derive(Drop)]
+#[derive(Clone, Copy)]
 struct Finding {
     answer: Answer,
     dword: u32,
@@ -58,7 +71,7 @@ struct Finding {
 }
 
 // What was found of a name.
-#[derive(Drop)]
+#[derive(Clone, Copy)]
 enum Look {
     Read(Finding),
     NotRead(Unread),
@@ -66,14 +79,14 @@ enum Look {
 }
 
 // What a read behind the last byte shows.
-#[derive(Drop)]
+#[derive(Clone, Copy)]
 enum Rest {
     Ended,
     Lost(Unread),
 }
 
 // What was found so far, and whether every name was read and every line written.
-#[derive(Drop)]
+#[derive(Clone, Copy)]
 struct Run {
     totals: Totals,
     whole: bool,
@@ -90,9 +103,9 @@ fn wish_of(word: &[u8]) -> Wish {
     }
 }
 
-fn asked() -> Wish {
-    let mut word = io::buffer();
-    let n = os::arg(1, &mut word);
+fn asked(env: &impl Env) -> Wish {
+    let mut word = [0u8; WORD_BYTES];
+    let n = arguments::whole(env, 1, &mut word);
     wish_of(&word[..n])
 }
 
@@ -167,22 +180,30 @@ fn number(error: i32) -> usize {
     if error > 0 { error as usize } else { 0 }
 }
 
+// The system's number for a failure. One that is not the system's has none.
+fn code(failure: io::Error) -> i32 {
+    match failure.raw_os_error() {
+        Some(error) => error,
+        None => 0,
+    }
+}
+
 // Why the system did not give a file. A file is not there either where a part of its path is no folder.
-fn why() -> Unread {
-    let error = os::errno();
-    if error == libc::ENOENT {
+fn why(failure: io::Error) -> Unread {
+    let error = code(failure);
+    if error == NO_ENTRY {
         return Unread::NoSuchFile;
     }
-    if error == libc::ENOTDIR {
+    if error == NO_FOLDER {
         return Unread::NoSuchFile;
     }
-    if error == libc::EACCES {
+    if error == NO_ACCESS {
         return Unread::NotAllowed;
     }
-    if error == libc::EISDIR {
+    if error == IS_FOLDER {
         return Unread::Folder;
     }
-    if error == libc::ENAMETOOLONG {
+    if error == NAME_TOO_LONG {
         return Unread::NameTooLong;
     }
     Unread::Other(number(error))
@@ -190,19 +211,12 @@ fn why() -> Unread {
 
 // What a read behind the last byte shows: only one that gives nothing shows that a file has ended, and one that gives a byte that it has grown
 // meanwhile. A terminal is not asked: it would wait for a second end.
-fn read_on(fd: i32) -> Rest {
-    if libc::isatty(fd) != 0 {
-        return Rest::Ended;
+fn read_on<I: Read + IsTerminal>(from: &mut I) -> Rest {
+    match input::goes_on(from) {
+        Ok(false) => Rest::Ended,
+        Ok(true) => Rest::Lost(Unread::Changed),
+        Err(failure) => Rest::Lost(why(failure)),
     }
-    let mut byte = [0u8; 1];
-    let got = libc::read(fd, &mut byte);
-    if got == 0 {
-        return Rest::Ended;
-    }
-    if got > 0 {
-        return Rest::Lost(Unread::Changed);
-    }
-    Rest::Lost(why())
 }
 
 // A size that is more than any capture has; a smaller one is not told, since more bytes than that were read.
@@ -223,12 +237,23 @@ fn size_by_end(end: i64) -> Detail {
     }
 }
 
+// Where the system says that a file ends; of some devices it says a number that is none.
+fn end_by_system<I: Seek>(file: &mut I) -> io::Result<i64> {
+    match i64::try_from(file.seek(SeekFrom::End(0))?) {
+        Ok(end) => Ok(end),
+        Err(_) => Err(io::Error::from(ErrorKind::InvalidData)),
+    }
+}
+
 // The size of a file of which so many bytes were read.
-fn size_of(fd: i32, read: usize) -> Detail {
+fn size_of<I: Seek>(file: &mut I, read: usize) -> Detail {
     if read < MOST_BYTES {
         return Detail::HasBytes(read as u64);
     }
-    size_by_end(libc::lseek(fd, 0, SEEK_END))
+    match end_by_system(file) {
+        Ok(end) => size_by_end(end),
+        Err(_) => Detail::HasTooMany,
+    }
 }
 
 // Some of the bytes of a buffer.
@@ -238,41 +263,44 @@ fn part(bytes: &[u8], from: usize, to: usize) -> &[u8]
     &bytes[from..to]
 }
 
-// What an open file is. A longer file than any capture is not read further.
-fn look_open(
+// What an open file is. A longer file than any capture is not read further. Why a read fails is seen by another one.
+fn look_open<I: Read + Seek + IsTerminal>(
     choice: BaseChoice,
-    fd: i32,
+    from: &mut I,
     file: &mut [u8; MOST_BYTES],
     batch: &mut [u32; 4096],
     state: &mut [u32; 4096],
     records: &mut [u32; RECORD_WORDS],
 ) -> Look {
-    let n = io::read_full(fd, file);
+    let n = input::fill(from, file).count;
     if n < MOST_BYTES {
-        if let Rest::Lost(why) = read_on(fd) {
+        if let Rest::Lost(why) = read_on(from) {
             return Look::NotRead(why);
         }
     }
-    let size = size_of(fd, n);
+    let size = size_of(from, n);
     let bytes = part(file, 0, n);
     Look::Read(judged(choice, bytes, size, batch, state, records))
 }
 
-fn look_at(
+// Each name has a number: its argument's, or its own among those in the file of names.
+fn look_at<R: Files>(
+    system: &R,
     choice: BaseChoice,
     name: &[u8],
+    number: usize,
     file: &mut [u8; MOST_BYTES],
     batch: &mut [u32; 4096],
     state: &mut [u32; 4096],
     records: &mut [u32; RECORD_WORDS],
-) -> Look {
-    let fd = os::open_read(name);
-    if fd < 0 {
-        return Look::NotRead(why());
+) -> Look
+where
+    R::File: IsTerminal,
+{
+    match files::open(system, name, number) {
+        Ok(mut from) => look_open(choice, &mut from, file, batch, state, records),
+        Err(failure) => Look::NotRead(why(failure)),
     }
-    let look = look_open(choice, fd, file, batch, state, records);
-    libc::close(fd);
-    look
 }
 
 // ---- what is said of a file
@@ -408,26 +436,30 @@ fn one_line(wish: Wish, line: &mut [u8; LINE_BYTES], name: &[u8], look: Look) ->
 }
 
 // A line is written whole, so that the lines of audits that run side by side do not mix (in a pipe, lines of up to 4,096 bytes). If it cannot be written, it is said why.
-fn write_front(line: &[u8], end: usize) -> bool
+fn write_front<O: Write, E: Write>(to: &mut Outputs<O, E>, line: &[u8], end: usize) -> bool
     requires { end ≤ length line.now }
 {
-    if io::write_all(STDOUT_FILENO, &line[..end]) {
-        return true;
-    }
-    os::fail(b"lungevati: the output could not be written");
-    false
+    to.print(&line[..end])
 }
 
 // The line for a name that is shown by the first n bytes of a text. Whether it was written.
-fn tell_shown(wish: Wish, text: &[u8], n: usize, look: Look, line: &mut [u8; LINE_BYTES]) -> bool
+fn tell_shown<O: Write, E: Write>(
+    to: &mut Outputs<O, E>,
+    wish: Wish,
+    text: &[u8],
+    n: usize,
+    look: Look,
+    line: &mut [u8; LINE_BYTES],
+) -> bool
     requires { (n ≤ length text.now) × (n ≤ name_bytes) × (length (quoted (take n text.now)) ≤ 20480) }
 {
     let end = one_line(wish, line, &text[..n], look);
-    write_front(line, end)
+    write_front(to, line, end)
 }
 
 // The line for a name of at most 4,096 bytes.
-fn tell_short(
+fn tell_short<O: Write, E: Write>(
+    to: &mut Outputs<O, E>,
     wish: Wish,
     name: &[u8],
     look: Look,
@@ -437,11 +469,12 @@ fn tell_short(
     requires { length name.now ≤ 4096 }
 {
     let n = names::shown(name, text);
-    tell_shown(wish, text, n, look, line)
+    tell_shown(to, wish, text, n, look, line)
 }
 
 // The line for any name; of one that is longer than any path the first bytes are shown.
-fn tell(
+fn tell<O: Write, E: Write>(
+    to: &mut Outputs<O, E>,
     wish: Wish,
     name: &[u8],
     look: Look,
@@ -452,9 +485,9 @@ fn tell(
         return true;
     }
     if 4096 < name.len() {
-        return tell_short(wish, &name[..4096], look, text, line);
+        return tell_short(to, wish, &name[..4096], look, text, line);
     }
-    tell_short(wish, name, look, text, line)
+    tell_short(to, wish, name, look, text, line)
 }
 
 // ---- the totals
@@ -498,13 +531,17 @@ fn status_of(run: Run) -> u8 {
 }
 
 // A line for each reason that captures were refused by.
-fn write_reasons(line: &mut [u8; LINE_BYTES], reasons: &[u64; REASONS]) -> bool {
+fn write_reasons<O: Write, E: Write>(
+    to: &mut Outputs<O, E>,
+    line: &mut [u8; LINE_BYTES],
+    reasons: &[u64; REASONS],
+) -> bool {
     let mut reason = 1;
     while reason < REASONS {
         let n = reasons[reason];
         if n != 0 {
             let end = sentences::reason_line(line, reason as u32, n);
-            if !write_front(line, end) {
+            if !write_front(to, line, end) {
                 return false;
             }
         }
@@ -513,30 +550,41 @@ fn write_reasons(line: &mut [u8; LINE_BYTES], reasons: &[u64; REASONS]) -> bool 
     true
 }
 
-fn write_unlisted(line: &mut [u8; LINE_BYTES], n: u64) -> bool {
+fn write_unlisted<O: Write, E: Write>(
+    to: &mut Outputs<O, E>,
+    line: &mut [u8; LINE_BYTES],
+    n: u64,
+) -> bool {
     if n == 0 {
         return true;
     }
     let end = sentences::unlisted_total(line, n);
-    write_front(line, end)
+    write_front(to, line, end)
 }
 
-fn write_plain_totals(line: &mut [u8; LINE_BYTES], t: Totals, choice: BaseChoice) -> bool {
+fn write_plain_totals<O: Write, E: Write>(
+    to: &mut Outputs<O, E>,
+    line: &mut [u8; LINE_BYTES],
+    t: Totals,
+    choice: BaseChoice,
+) -> bool {
     let end = sentences::totals_line(line, t.accepted, t.refused, t.unread, t.missing, choice);
-    write_front(line, end)
+    write_front(to, line, end)
 }
 
-fn write_json_totals(
+fn write_json_totals<O: Write, E: Write>(
+    to: &mut Outputs<O, E>,
     line: &mut [u8; LINE_BYTES],
     t: Totals,
     reasons: &[u64; REASONS],
     choice: BaseChoice,
 ) -> bool {
     let end = json_lines::totals_line(line, t, reasons, choice);
-    write_front(line, end)
+    write_front(to, line, end)
 }
 
-fn write_totals(
+fn write_totals<O: Write, E: Write>(
+    to: &mut Outputs<O, E>,
     wish: Wish,
     t: Totals,
     line: &mut [u8; LINE_BYTES],
@@ -544,11 +592,11 @@ fn write_totals(
 ) -> bool {
     let choice = wish.choice;
     if wish.json {
-        return write_json_totals(line, t, reasons, choice);
+        return write_json_totals(to, line, t, reasons, choice);
     }
-    write_reasons(line, reasons)
-        && write_unlisted(line, t.unlisted)
-        && write_plain_totals(line, t, choice)
+    write_reasons(to, line, reasons)
+        && write_unlisted(to, line, t.unlisted)
+        && write_plain_totals(to, line, t, choice)
 }
 
 // ---- the names
@@ -567,8 +615,8 @@ fn none_yet() -> Run {
 }
 
 // No more names can be read.
-fn names_lost(run: Run) -> Run {
-    os::fail(b"lungevati: the names could not be read");
+fn names_lost<E: Write>(messages: &mut E, run: Run, failure: io::Error) -> Run {
+    let _ = tell_failure(messages, b"lungevati: the names could not be read", failure);
     let totals = run.totals;
     Run {
         totals,
@@ -577,15 +625,16 @@ fn names_lost(run: Run) -> Run {
 }
 
 // The begin of a run over the file of names, by where that ends.
-fn begun(end: i64) -> Run {
-    if end < 0 {
-        return names_lost(none_yet());
+fn begun<E: Write>(messages: &mut E, end: io::Result<i64>) -> Run {
+    match end {
+        Ok(_) => none_yet(),
+        Err(failure) => names_lost(messages, none_yet(), failure),
     }
-    none_yet()
 }
 
 // One name more: its line is written, and it is counted.
-fn with_name(
+fn with_name<O: Write, E: Write>(
+    to: &mut Outputs<O, E>,
     wish: Wish,
     run: Run,
     name: &[u8],
@@ -597,23 +646,21 @@ fn with_name(
     count_reason(reasons, reason_of(look));
     let before = run.totals;
     let totals = counted(before, kind_of(look));
-    let whole = tell(wish, name, look, text, line);
+    let whole = tell(to, wish, name, look, text, line);
     Run { totals, whole }
 }
 
 // The argument i, and its length. One that is longer than any path fills the entry.
-fn argument(i: usize, entry: &mut [u8; ENTRY]) -> usize
+fn argument(env: &impl Env, i: usize, entry: &mut [u8; ENTRY]) -> usize
     ensures { result ≤ length entry.new }
 {
-    let n = os::arg(i, entry);
-    if os::errno() == libc::ENAMETOOLONG {
-        return ENTRY;
-    }
-    n
+    arguments::front(env, i, entry)
 }
 
 // The captures that arguments name.
-fn audit_arguments(
+fn audit_arguments<R: Env + Files, O: Write, E: Write>(
+    system: &R,
+    to: &mut Outputs<O, E>,
     wish: Wish,
     count: usize,
     entry: &mut [u8; ENTRY],
@@ -624,37 +671,45 @@ fn audit_arguments(
     state: &mut [u32; 4096],
     records: &mut [u32; RECORD_WORDS],
     reasons: &mut [u64; REASONS],
-) -> Run {
+) -> Run
+where
+    R::File: IsTerminal,
+{
     let choice = wish.choice;
     let mut run = none_yet();
     let mut i = 2;
     while i < count && run.whole {
-        let n = argument(i, entry);
+        let n = argument(system, i, entry);
         let name = part(entry, 0, n);
-        let look = look_at(choice, name, file, batch, state, records);
-        run = with_name(wish, run, name, look, text, line, reasons);
+        let look = look_at(system, choice, name, i, file, batch, state, records);
+        run = with_name(to, wish, run, name, look, text, line, reasons);
         i += 1;
     }
     run
 }
 
 // What a letter before a name asks for: c that it is checked; n that it is no regular file, and u that it is not listed.
-fn look_by_letter(
+fn look_by_letter<R: Files>(
+    system: &R,
     choice: BaseChoice,
     letter: u8,
     name: &[u8],
+    number: usize,
     file: &mut [u8; MOST_BYTES],
     batch: &mut [u32; 4096],
     state: &mut [u32; 4096],
     records: &mut [u32; RECORD_WORDS],
-) -> Look {
+) -> Look
+where
+    R::File: IsTerminal,
+{
     if letter == b'u' {
         return Look::Unlisted;
     }
     if letter == b'n' {
         return Look::NotRead(Unread::NoRegularFile);
     }
-    look_at(choice, name, file, batch, state, records)
+    look_at(system, choice, name, number, file, batch, state, records)
 }
 
 fn in_bounds(size: u64) -> usize
@@ -683,16 +738,20 @@ fn end_of(entry: &[u8], n: usize) -> usize
 }
 
 // The entry at a place of the file of names, and the place of its NUL.
-fn fetch(at: usize, entry: &mut [u8; ENTRY]) -> usize
+fn fetch<N: Read + Seek>(names: &mut N, at: usize, entry: &mut [u8; ENTRY]) -> io::Result<usize>
     requires { at < 0x10000000000 }
-    ensures { result ≤ length entry.new }
+    ensures { IfOk result (λ end. end ≤ length entry.new) }
 {
-    let n = io::count(libc::pread(NAMES, entry, at as i64), entry);
-    end_of(entry, n)
+    names.seek(SeekFrom::Start(at as u64))?;
+    let n = names.read(entry)?;
+    Ok(end_of(entry, n))
 }
 
-// The captures that the file of names has.
-fn audit_stream(
+// The captures that the open file of names has.
+fn audit_names<R: Files, N: Read + Seek, O: Write, E: Write>(
+    system: &R,
+    names: &mut N,
+    to: &mut Outputs<O, E>,
     wish: Wish,
     entry: &mut [u8; ENTRY],
     text: &mut [u8; NAME_BYTES],
@@ -702,37 +761,84 @@ fn audit_stream(
     state: &mut [u32; 4096],
     records: &mut [u32; RECORD_WORDS],
     reasons: &mut [u64; REASONS],
-) -> Run {
+) -> Run
+where
+    R::File: IsTerminal,
+{
     let choice = wish.choice;
-    let last = libc::lseek(NAMES, 0, SEEK_END);
-    let mut run = begun(last);
-    let size = names_size(last);
+    let last = end_by_system(names);
+    let mut run = begun(&mut to.messages, last);
+    let size = names_size(last.unwrap_or(0));
     let mut at = 0;
+    let mut number = 0;
     while at < size && run.whole {
-        let end = fetch(at, entry);
-        if end == 0 {
-            return names_lost(run);
-        }
+        let end = match fetch(names, at, entry) {
+            Ok(0) => {
+                let ended = io::Error::from(ErrorKind::UnexpectedEof);
+                return names_lost(&mut to.messages, run, ended);
+            }
+            Ok(end) => end,
+            Err(failure) => return names_lost(&mut to.messages, run, failure),
+        };
         let letter = entry[0];
         let name = part(entry, 1, end);
-        let look = look_by_letter(choice, letter, name, file, batch, state, records);
-        run = with_name(wish, run, name, look, text, line, reasons);
+        number += 1;
+        let look = look_by_letter(
+            system, choice, letter, name, number, file, batch, state, records,
+        );
+        run = with_name(to, wish, run, name, look, text, line, reasons);
         at += end + 1;
     }
     run
 }
 
+// The captures that the file of names has.
+fn audit_stream<R: Files, O: Write, E: Write>(
+    system: &R,
+    to: &mut Outputs<O, E>,
+    wish: Wish,
+    entry: &mut [u8; ENTRY],
+    text: &mut [u8; NAME_BYTES],
+    line: &mut [u8; LINE_BYTES],
+    file: &mut [u8; MOST_BYTES],
+    batch: &mut [u32; 4096],
+    state: &mut [u32; 4096],
+    records: &mut [u32; RECORD_WORDS],
+    reasons: &mut [u64; REASONS],
+) -> Run
+where
+    R::File: IsTerminal,
+{
+    match descriptors::open_names(system) {
+        Ok(mut names) => audit_names(
+            system, &mut names, to, wish, entry, text, line, file, batch, state, records, reasons,
+        ),
+        Err(failure) => names_lost(&mut to.messages, none_yet(), failure),
+    }
+}
+
 // The end of a run: the totals are written, if every line before was, and the status is told.
-fn conclude(wish: Wish, run: Run, line: &mut [u8; LINE_BYTES], reasons: &[u64; REASONS]) {
+fn conclude<R: Files, O: Write, E: Write>(
+    system: &R,
+    to: &mut Outputs<O, E>,
+    wish: Wish,
+    run: Run,
+    line: &mut [u8; LINE_BYTES],
+    reasons: &[u64; REASONS],
+) {
     let totals = run.totals;
-    let whole = run.whole && write_totals(wish, totals, line, reasons);
+    let whole = run.whole && write_totals(to, wish, totals, line, reasons);
     let status = status_of(Run { totals, whole });
-    io::write_all(REPORT, &reports::status_line(status));
+    let _ = descriptors::report(system, &reports::status_line(status));
 }
 
 // Every buffer is made once and lent for each name: to make them anew would cost more than the check.
-fn main() {
-    let wish = asked();
+fn main(rt: HostRuntime) {
+    let mut to = Outputs {
+        printout: rt.stdout(),
+        messages: rt.stderr(),
+    };
+    let wish = asked(&rt);
     let mut entry = [0u8; ENTRY];
     let mut text = [0u8; NAME_BYTES];
     let mut line = [0u8; LINE_BYTES];
@@ -743,6 +849,8 @@ fn main() {
     let mut reasons = [0u64; REASONS];
     let run = if wish.stream {
         audit_stream(
+            &rt,
+            &mut to,
             wish,
             &mut entry,
             &mut text,
@@ -754,8 +862,10 @@ fn main() {
             &mut reasons,
         )
     } else {
-        let count = os::arg_count();
+        let count = arguments::count(&rt);
         audit_arguments(
+            &rt,
+            &mut to,
             wish,
             count,
             &mut entry,
@@ -768,5 +878,5 @@ fn main() {
             &mut reasons,
         )
     };
-    conclude(wish, run, &mut line, &reasons);
+    conclude(&rt, &mut to, wish, run, &mut line, &reasons);
 }

@@ -12,12 +12,16 @@ mod reading;
 use crate::reading::{
     BATCH_DWORDS, NUMBERS, Reading, Verdict, WORD_BYTES, begun, is_open, judged, part, take,
 };
-use libc::{STDERR_FILENO, STDIN_FILENO, STDOUT_FILENO};
 use lines::{LINE_BYTES, NAME_BYTES, put_byte, put_hex};
+use outside::output::{Outputs, tell_failure, write_all};
+use outside::{arguments, descriptors, files};
 use reports::{ACCEPTED, REFUSED, UNREAD};
+use std::io;
+use std::io::{Read, Write};
+use std::rt::{Env, Files};
 
-// Where the status is told.
-const REPORT: i32 = 3;
+// How many bytes are read at once, and how many an argument may have: one that fills the room is longer than any path.
+const PIECE_BYTES: usize = 4096;
 
 // A line of eight digits for each dword of the batch.
 const PAGE_BYTES: usize = 9 * BATCH_DWORDS;
@@ -66,9 +70,9 @@ fn ended(
 }
 
 // Reads once.
-fn read_on(
+fn read_on<I: Read>(
     r: Reading,
-    fd: i32,
+    from: &mut I,
     word: &mut [u8; WORD_BYTES],
     numbers: &mut [u32; NUMBERS],
     batch: &mut [u32; BATCH_DWORDS],
@@ -76,27 +80,27 @@ fn read_on(
     requires { Within r }
     ensures { Within result }
 {
-    let mut piece = io::buffer();
-    let got = libc::read(fd, &mut piece);
-    if got < 0 {
-        return judged(r, Verdict::Unread);
+    let mut piece = [0u8; PIECE_BYTES];
+    match from.read(&mut piece) {
+        Ok(0) => ended(r, word, numbers, batch),
+        Ok(n) => take_piece(r, &piece[..n], word, numbers, batch),
+        Err(failure) => judged(r, Verdict::Unread(failure)),
     }
-    if got == 0 {
-        return ended(r, word, numbers, batch);
-    }
-    let n = io::count(got, &piece);
-    take_piece(r, &piece[..n], word, numbers, batch)
 }
 
 // Reads and writes line by line, until the input is judged.
-fn read_lines(fd: i32, word: &mut [u8; WORD_BYTES], batch: &mut [u32; BATCH_DWORDS]) -> Reading
+fn read_lines<I: Read>(
+    from: &mut I,
+    word: &mut [u8; WORD_BYTES],
+    batch: &mut [u32; BATCH_DWORDS],
+) -> Reading
     ensures { Within result }
 {
     let mut numbers = [0u32; NUMBERS];
     let mut r = begun(1, 0);
     let mut reads = 0;
     while reads < MOST_READS && is_open(r) {
-        r = read_on(r, fd, word, &mut numbers, batch);
+        r = read_on(r, from, word, &mut numbers, batch);
         reads += 1;
     }
     r
@@ -136,131 +140,149 @@ fn written(batch: &[u32; BATCH_DWORDS], end: usize) -> &[u32]
 }
 
 // Prints them, and says why if that cannot be done.
-fn print_dwords(dwords: &[u32]) -> u8
+fn print_dwords<O: Write, E: Write>(to: &mut Outputs<O, E>, dwords: &[u32]) -> u8
     requires { length dwords.now ≤ 4096 }
 {
     let mut page = [0u8; PAGE_BYTES];
     let n = put_dwords(&mut page, dwords);
-    if io::write_all(STDOUT_FILENO, &page[..n]) {
-        return ACCEPTED;
+    if to.print(&page[..n]) {
+        ACCEPTED
+    } else {
+        UNREAD
     }
-    os::fail(b"lungevati: the output could not be written");
-    UNREAD
 }
 
 // ---- what is said
 
-// Says that the input was not read, and why, by the system's last error.
-fn say_unread(name: &[u8]) -> u8 {
-    io::write_all(STDERR_FILENO, b"lungevati: ");
-    os::fail(name);
+// Says that the input was not read, and why.
+fn say_unread<E: Write>(messages: &mut E, name: &[u8], failure: io::Error) -> u8 {
+    let _ = write_all(messages, b"lungevati: ");
+    let _ = tell_failure(messages, name, failure);
     UNREAD
 }
 
-fn say_refused(name: &[u8], number: usize, reason: u32) -> u8
+fn say_refused<E: Write>(messages: &mut E, name: &[u8], number: usize, reason: u32) -> u8
     requires { length name.now ≤ name_bytes }
 {
     let mut line = [0u8; LINE_BYTES];
     let n = sentences::writing_line(&mut line, name, number, reason);
-    io::write_all(STDERR_FILENO, &line[..n]);
+    let _ = write_all(messages, &line[..n]);
     REFUSED
 }
 
 // Says what is wrong with a line.
-fn say_wrong(name: &[u8], number: usize, what: &[u8]) -> u8 {
-    io::write_all(STDERR_FILENO, b"lungevati: ");
-    io::write_all(STDERR_FILENO, name);
-    io::write_all(STDERR_FILENO, b": line ");
-    io::print_decimal(STDERR_FILENO, number as u64);
-    io::write_all(STDERR_FILENO, b": ");
-    io::write_all(STDERR_FILENO, what);
+fn say_wrong<E: Write>(messages: &mut E, name: &[u8], number: usize, what: &[u8]) -> u8 {
+    let _ = write_all(messages, b"lungevati: ");
+    let _ = write_all(messages, name);
+    let _ = write!(messages, ": line {number}: ");
+    let _ = write_all(messages, what);
     UNREAD
 }
 
 // Says what is wrong with a word, which is shown as a name is.
-fn say_word(name: &[u8], number: usize, word: &[u8], what: &[u8]) -> u8
+fn say_word<E: Write>(messages: &mut E, name: &[u8], number: usize, word: &[u8], what: &[u8]) -> u8
     requires { length word.now ≤ 4096 }
 {
     let mut text = [0u8; NAME_BYTES];
     let n = names::shown(word, &mut text);
-    say_wrong(name, number, &text[..n]);
-    io::write_all(STDERR_FILENO, what);
+    say_wrong(messages, name, number, &text[..n]);
+    let _ = write_all(messages, what);
     UNREAD
 }
 
 // What is made of an input that is judged: it is printed, or it is said why not.
-fn concluded(r: Reading, name: &[u8], word: &[u8; WORD_BYTES], batch: &[u32; BATCH_DWORDS]) -> u8
+fn concluded<O: Write, E: Write>(
+    to: &mut Outputs<O, E>,
+    r: Reading,
+    name: &[u8],
+    word: &[u8; WORD_BYTES],
+    batch: &[u32; BATCH_DWORDS],
+) -> u8
     requires { (Within r) × (length name.now ≤ name_bytes) }
 {
+    let messages = &mut to.messages;
     let verdict = r.verdict;
     match verdict {
-        Verdict::Open => say_wrong(name, r.line, b"the input goes on for too long\n"),
-        Verdict::Whole => print_dwords(written(batch, r.first)),
-        Verdict::Unread => say_unread(name),
-        Verdict::Refused(reason) => say_refused(name, r.line, reason),
+        Verdict::Open => say_wrong(messages, name, r.line, b"the input goes on for too long\n"),
+        Verdict::Whole => print_dwords(to, written(batch, r.first)),
+        Verdict::Unread(failure) => say_unread(messages, name, failure),
+        Verdict::Refused(reason) => say_refused(messages, name, r.line, reason),
         Verdict::NoRow => say_word(
+            messages,
             name,
             r.line,
             part(word, r.kept),
             b" is no row's number and no command's name\n",
         ),
         Verdict::NoDword => say_word(
+            messages,
             name,
             r.line,
             part(word, r.kept),
             b" is no hexadecimal number of one to eight digits\n",
         ),
         Verdict::NoFree => say_wrong(
+            messages,
             name,
             r.line,
             b"FREE is missing behind the row: a line is ROW FREE DWORD..\n",
         ),
-        Verdict::TooMany => say_wrong(name, r.line, b"it has more than 4,096 dwords\n"),
+        Verdict::TooMany => say_wrong(messages, name, r.line, b"it has more than 4,096 dwords\n"),
     }
 }
 
 // ---- the program
 
 // Composes what an open input asks for. The input is shown by its name.
-fn compose_input(fd: i32, name: &[u8]) -> u8
+fn compose_input<I: Read, O: Write, E: Write>(
+    to: &mut Outputs<O, E>,
+    from: &mut I,
+    name: &[u8],
+) -> u8
     requires { length name.now ≤ name_bytes }
 {
     let mut word = [0u8; WORD_BYTES];
     let mut batch = [0u32; BATCH_DWORDS];
-    let r = read_lines(fd, &mut word, &mut batch);
-    concluded(r, name, &word, &batch)
+    let r = read_lines(from, &mut word, &mut batch);
+    concluded(to, r, name, &word, &batch)
 }
 
-fn compose_file(name: &[u8], text: &mut [u8; NAME_BYTES]) -> u8
+// A name has its argument's number.
+fn compose_file<R: Files, O: Write, E: Write>(
+    system: &R,
+    to: &mut Outputs<O, E>,
+    name: &[u8],
+    number: usize,
+    text: &mut [u8; NAME_BYTES],
+) -> u8
     requires { length name.now ≤ 4096 }
 {
-    let fd = os::open_read(name);
+    let opened = files::open(system, name, number);
     let n = names::shown(name, text);
     let shown = part(text, n);
-    if fd < 0 {
-        return say_unread(shown);
+    match opened {
+        Ok(mut file) => compose_input(to, &mut file, shown),
+        Err(failure) => say_unread(&mut to.messages, shown, failure),
     }
-    let status = compose_input(fd, shown);
-    libc::close(fd);
-    status
 }
 
 // An argument that is longer than any path fills the buffer, and no path is as long as that.
-fn compose_argument() -> u8 {
+fn compose_argument<R: Env + Files, O: Write, E: Write>(system: &R, to: &mut Outputs<O, E>) -> u8 {
     let mut text = [0u8; NAME_BYTES];
-    let mut name = io::buffer();
-    let n = os::arg(1, &mut name);
-    if os::errno() == libc::ENAMETOOLONG {
-        return compose_file(&name, &mut text);
-    }
-    compose_file(&name[..n], &mut text)
+    let mut name = [0u8; PIECE_BYTES];
+    let n = arguments::front(system, 1, &mut name);
+    compose_file(system, to, part(&name, n), 1, &mut text)
 }
 
-fn main() {
-    let status = if os::arg_count() < 2 {
-        compose_input(STDIN_FILENO, b"standard input")
-    } else {
-        compose_argument()
+fn main(rt: HostRuntime) {
+    let mut to = Outputs {
+        printout: rt.stdout(),
+        messages: rt.stderr(),
     };
-    io::write_all(REPORT, &reports::status_line(status));
+    let status = if arguments::count(&rt) < 2 {
+        compose_input(&mut to, &mut rt.stdin(), b"standard input")
+    } else {
+        compose_argument(&rt, &mut to)
+    };
+    let _ = descriptors::report(&rt, &reports::status_line(status));
 }

@@ -79,7 +79,7 @@ fn named(word: &[u8]) -> Value
     let mut row = 0;
     while row < ROWS {
         let n = sentences::command_words(&mut name, row);
-        if check::same(&name[..n], word) {
+        if &name[..n] == word {
             return Value::Is(row as u32);
         }
         row += 1;

@@ -4,6 +4,7 @@ ghost use Rattle.std.specs.Prelude.{◌<◌, ◌≤◌, length};
 ghost use Rattle.compose.specs.Reading.{Within};
 
 use crate::numbers::{Value, hexadecimal, row};
+use std::io;
 use std::num::wrapping_add_usize;
 
 // The dwords that are lent to the writer.
@@ -17,11 +18,11 @@ pub(crate) const WORD_BYTES: usize = 64;
 
 // What is known of the input: it may go on, or it was read to its end; or why it is not written. Of the last three the word or the line is
 // none that is known.
-#[derive(Drop)]
+#[derive(Clone, Copy)]
 pub(crate) enum Verdict {
     Open,
     Whole,
-    Unread,
+    Unread(io::Error),
     Refused(u32),
     NoRow,
     NoDword,
@@ -31,7 +32,7 @@ pub(crate) enum Verdict {
 
 // What has been read: the number of the line, from 1; whether its comment has begun; how many numbers it has so far, and how many bytes of a
 // word are kept behind them; and the first free dword of the batch.
-#[derive(Drop)]
+#[derive(Clone, Copy)]
 pub(crate) struct Reading {
     pub(crate) line: usize,
     pub(crate) comment: bool,
@@ -75,7 +76,7 @@ pub(crate) fn is_open(r: Reading) -> bool {
     match verdict {
         Verdict::Open => true,
         Verdict::Whole => false,
-        Verdict::Unread => false,
+        Verdict::Unread(_) => false,
         Verdict::Refused(_) => false,
         Verdict::NoRow => false,
         Verdict::NoDword => false,

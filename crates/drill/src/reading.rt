@@ -1,10 +1,10 @@
 // Reading a line: its first letter, its hexadecimal numbers, and `[..]n` for what stands n times.
-use crate::windows::{ARGUMENTS, END, NUMBERS, RECORD_WORDS, STATE, WORDS, get, set};
+use crate::buffers::{ARGUMENTS, END, NUMBERS, RECORD_WORDS, STATE, WORDS, get, set};
 use std::num::{wrapping_add_u32, wrapping_sub_u32};
 
 // What has been read of a line: its first byte (a line feed, as long as there is none), where its next number goes, where the last bracket
 // opened, the number that is being read, whether it has a digit yet, and whether it says how often the group stands.
-#[derive(Drop)]
+#[derive(Clone, Copy)]
 pub(crate) struct Reading {
     pub(crate) letter: u8,
     pub(crate) next: u32,

@@ -1,8 +1,10 @@
 // The dword that a line names is varied, the checker is asked each time, and an answer is printed where it is not the one before it.
+use crate::buffers::{ARGUMENTS, LENT, QUESTION_NUMBERS, ROOM, UNWRITTEN, WORDS, ask, get, set};
 use crate::reading::pick;
 use crate::sayings;
-use crate::windows::{ARGUMENTS, LENT, QUESTION_NUMBERS, ROOM, UNWRITTEN, WORDS, ask, get, set};
 use rules::Answer;
+use std::io;
+use std::io::Write;
 use std::num::{wrapping_add_u32, wrapping_sub_u32};
 
 // Where the numbers of the line stand: which window and dword, and the values: the first, the step, how many, and the bits that they are cut to.
@@ -45,7 +47,8 @@ fn value(letter: u8, v: u32, x: u32, stood: u32, words: &[u32; WORDS]) -> u32 {
 
 // Asks at each of n values of the word at a place, which stood so, and answers the last of them. No answer comes before the first. Only
 // a copy of the words is varied, so that the dword stands as it stood for the lines behind.
-fn ask_each(
+fn ask_each<W: Write>(
+    out: &mut W,
     letter: u8,
     n: u32,
     place: u32,
@@ -53,7 +56,7 @@ fn ask_each(
     words: &[u32; WORDS],
     records: &mut [u32; LENT],
     twin: &mut [u32; LENT],
-) -> u32 {
+) -> io::Result<u32> {
     let mut varied = *words;
     let mut before = Answer {
         reason: UNWRITTEN,
@@ -62,28 +65,30 @@ fn ask_each(
         count: 0,
     };
     let mut x = stood;
-    let mut v = 0;
-    while v < n {
+    for v in 0..n {
         x = value(letter, v, x, stood, words);
         set(place, x, &mut varied);
-        before = sayings::found(x, ask(false, &varied, records, twin), before);
-        v += 1;
+        let answer = ask(out, false, &varied, records, twin)?;
+        before = sayings::found(out, x, answer, before)?;
     }
-    x
+    Ok(x)
 }
 
 // Asks at the values of the dword that the line names, if it asks for any. There are four windows.
-pub(crate) fn scan(
+pub(crate) fn scan<W: Write>(
+    out: &mut W,
     letter: u8,
     words: &[u32; WORDS],
     records: &mut [u32; LENT],
     twin: &mut [u32; LENT],
-) {
+) -> io::Result<()> {
     let n = values(letter, words);
     if 0 < n {
         let window = get(WINDOW, words) % 4;
         let place = wrapping_add_u32(window * ROOM, get(DWORD, words));
         let stood = get(place, words);
-        sayings::last(ask_each(letter, n, place, stood, words, records, twin));
+        let x = ask_each(out, letter, n, place, stood, words, records, twin)?;
+        sayings::last(out, x)?;
     }
+    Ok(())
 }

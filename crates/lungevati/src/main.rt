@@ -5,10 +5,14 @@
 ghost use Rattle.std.specs.Prelude.{◌≡◌, ◌≤◌, length};
 ghost use Rattle.lines.specs.Lines.{name_bytes};
 
-use libc::{STDERR_FILENO, STDIN_FILENO, STDOUT_FILENO};
 use lines::{NAME_BYTES, put_text};
+use outside::output::{Outputs, tell_failure, write_all};
+use outside::{arguments, descriptors, files, input};
 use reports::{ACCEPTED, MOST_BYTES, REFUSED, UNREAD, base_choice, worse};
 use rules::{Answer, BaseChoice};
+use std::io;
+use std::io::{IsTerminal, Read, Write};
+use std::rt::{Env, Files};
 
 // The status of a run whose output could not be written: nothing is read after it.
 const UNWRITTEN: u8 = 3;
@@ -19,56 +23,59 @@ const RECORD_WORDS: usize = 8192;
 // How many bytes of lines are gathered before they are written: a capture of 4,096 commands takes two pages.
 const PAGE_BYTES: usize = 32768;
 
+// An argument that fills the room for a name is longer than any path.
+const ARGUMENT_BYTES: usize = 4096;
+
 // How an input ended: all of it was read, or it grew meanwhile, or a read failed.
-#[derive(Drop)]
+#[derive(Clone, Copy)]
 enum Ending {
     Whole,
     Changed,
-    Failed,
+    Failed(io::Error),
 }
 
 // So many bytes of an input, and how it ended.
-#[derive(Drop)]
+#[derive(Clone, Copy)]
 struct Input {
     count: usize,
     ending: Ending,
 }
 
 // The base that captures are to be judged by.
-fn asked() -> BaseChoice {
-    let mut word = io::buffer();
-    let n = os::arg(1, &mut word);
+fn asked(env: &impl Env) -> BaseChoice {
+    let mut word = [0u8; ARGUMENT_BYTES];
+    let n = arguments::whole(env, 1, &mut word);
     base_choice(&word[..n])
 }
 
 // Writes to standard output, and says why if that cannot be done.
-fn write_out(text: &[u8]) -> bool {
-    if io::write_all(STDOUT_FILENO, text) {
-        return true;
-    }
-    os::fail(b"lungevati: the output could not be written");
-    false
+fn write_out<O: Write, E: Write>(to: &mut Outputs<O, E>, text: &[u8]) -> bool {
+    to.print(text)
 }
 
 // Writes the front of a page.
-fn write_page(page: &[u8], end: usize) -> bool
+fn write_page<O: Write, E: Write>(to: &mut Outputs<O, E>, page: &[u8], end: usize) -> bool
     requires { end ≤ length page.now }
 {
-    write_out(&page[..end])
+    write_out(to, &page[..end])
 }
 
-fn print_answer(answer: Answer) -> bool {
+fn print_answer<O: Write, E: Write>(to: &mut Outputs<O, E>, answer: Answer) -> bool {
     let mut line = [0u8; 128];
     let n = printout::answer_line(&mut line, answer);
-    write_out(&line[..n])
+    write_out(to, &line[..n])
 }
 
 // Prints the line of each record.
-fn print_records(page: &mut [u8; PAGE_BYTES], records: &[u32]) -> bool {
+fn print_records<O: Write, E: Write>(
+    to: &mut Outputs<O, E>,
+    page: &mut [u8; PAGE_BYTES],
+    records: &[u32],
+) -> bool {
     let mut i = 0;
     while i + 1 < records.len() {
         let gathered = printout::record_lines(page, &records[i..]);
-        if !write_page(page, gathered.bytes) {
+        if !write_page(to, page, gathered.bytes) {
             return false;
         }
         i += 2 * gathered.lines;
@@ -86,7 +93,8 @@ fn told(records: &[u32], count: usize) -> &[u32] {
 }
 
 // Prints the answer for a file and its records, and answers its status.
-fn print_judgement(
+fn print_judgement<O: Write, E: Write>(
+    to: &mut Outputs<O, E>,
     choice: BaseChoice,
     page: &mut [u8; PAGE_BYTES],
     batch: &mut [u32; 4096],
@@ -95,10 +103,10 @@ fn print_judgement(
     file: &[u8],
 ) -> u8 {
     let answer = capture::judge(choice, file, batch, state, records);
-    if !print_answer(answer) {
+    if !print_answer(to, answer) {
         return UNWRITTEN;
     }
-    if !print_records(page, told(records, answer.count as usize)) {
+    if !print_records(to, page, told(records, answer.count as usize)) {
         return UNWRITTEN;
     }
     if answer.reason == 0 {
@@ -109,80 +117,66 @@ fn print_judgement(
 }
 
 // The line above the printout of a file among several.
-fn print_name(page: &mut [u8; PAGE_BYTES], name: &[u8]) -> bool
+fn print_name<O: Write, E: Write>(
+    to: &mut Outputs<O, E>,
+    page: &mut [u8; PAGE_BYTES],
+    name: &[u8],
+) -> bool
     requires { length name.now ≤ name_bytes }
 {
     let start = put_text(page, 0, b"file ");
     let end = put_text(page, start, name);
     let behind = put_text(page, end, b"\n");
-    write_page(page, behind)
+    write_page(to, page, behind)
 }
 
-// Says that an input was not read, and why, by the system's last error.
-fn complain(name: &[u8]) {
-    io::write_all(STDERR_FILENO, b"lungevati: ");
-    os::fail(name);
+// Says that an input was not read, and why.
+fn complain<E: Write>(messages: &mut E, name: &[u8], why: io::Error) {
+    let _ = write_all(messages, b"lungevati: ");
+    let _ = tell_failure(messages, name, why);
 }
 
 // Says that an input changed.
-fn complain_of_change(name: &[u8]) {
-    io::write_all(STDERR_FILENO, b"lungevati: ");
-    io::write_all(STDERR_FILENO, name);
-    io::write_all(STDERR_FILENO, b": it changed while it was read\n");
+fn complain_of_change<E: Write>(messages: &mut E, name: &[u8]) {
+    let _ = write_all(messages, b"lungevati: ");
+    let _ = write_all(messages, name);
+    let _ = write_all(messages, b": it changed while it was read\n");
 }
 
 // Reads until an input ends, the buffer is full, or a read fails.
-fn fill(fd: i32, bytes: &mut [u8]) -> Input
+fn fill<I: Read>(from: &mut I, bytes: &mut [u8]) -> Input
     ensures { result.count ≤ length bytes.new }
 {
-    let mut n = 0;
-    while n < bytes.len() {
-        let got = libc::read(fd, &mut bytes[n..]);
-        if got < 0 {
-            return Input {
-                count: n,
-                ending: Ending::Failed,
-            };
-        }
-        let more = io::count(got, &bytes[n..]);
-        if more == 0 {
-            return Input {
-                count: n,
-                ending: Ending::Whole,
-            };
-        }
-        n += more;
-    }
+    let filled = input::fill(from, bytes);
     Input {
-        count: n,
-        ending: Ending::Whole,
+        count: filled.count,
+        ending: match filled.failure {
+            None => Ending::Whole,
+            Some(why) => Ending::Failed(why),
+        },
     }
 }
 
 // Whether an input goes on behind its end, since it has grown. A terminal is not asked: it would wait for a second end.
-fn goes_on(fd: i32) -> bool {
-    if libc::isatty(fd) != 0 {
-        return false;
-    }
-    let mut byte = [0u8; 1];
-    libc::read(fd, &mut byte) > 0
+fn goes_on<I: Read + IsTerminal>(from: &mut I) -> bool {
+    matches!(input::goes_on(from), Ok(true))
 }
 
 // Reads an input to its end. A longer one than any capture is not read further.
-fn read_input(fd: i32, bytes: &mut [u8]) -> Input
+fn read_input<I: Read + IsTerminal>(from: &mut I, bytes: &mut [u8]) -> Input
     ensures { result.count ≤ length bytes.new }
 {
-    let input = fill(fd, bytes);
+    let input = fill(from, bytes);
     let count = input.count;
     if count == bytes.len() {
         return input;
     }
     let ending = input.ending;
     match ending {
-        Ending::Failed => input,
+        Ending::Failed(_) => input,
         _ => Input {
             count,
-            ending: if goes_on(fd) {
+            ending: if goes_on(from) {
                 Ending::Changed
             } else {
                 Ending::Whole
@@ -192,7 +186,8 @@ fn read_input(fd: i32, bytes: &mut [u8]) -> Input
 }
 
 // The answer for the bytes of an input, which is shown by its name.
-fn answer_bytes(
+fn answer_bytes<O: Write, E: Write>(
+    to: &mut Outputs<O, E>,
     choice: BaseChoice,
     page: &mut [u8; PAGE_BYTES],
     batch: &mut [u32; 4096],
@@ -204,39 +199,41 @@ fn answer_bytes(
 ) -> u8
     requires { length name.now ≤ name_bytes }
 {
-    if among_several && !print_name(page, name) {
+    if among_several && !print_name(to, page, name) {
         return UNWRITTEN;
     }
-    print_judgement(choice, page, batch, state, records, file)
+    print_judgement(to, choice, page, batch, state, records, file)
 }
 
 // The answer for an open input.
-fn answer_input(
+fn answer_input<O: Write, E: Write, I: Read + IsTerminal>(
+    to: &mut Outputs<O, E>,
     choice: BaseChoice,
     page: &mut [u8; PAGE_BYTES],
     batch: &mut [u32; 4096],
     state: &mut [u32; 4096],
     records: &mut [u32; RECORD_WORDS],
     bytes: &mut [u8],
-    fd: i32,
+    from: &mut I,
     name: &[u8],
     among_several: bool,
 ) -> u8
     requires { length name.now ≤ name_bytes }
 {
-    let input = read_input(fd, bytes);
+    let input = read_input(from, bytes);
     let count = input.count;
     let ending = input.ending;
     match ending {
-        Ending::Failed => {
-            complain(name);
+        Ending::Failed(why) => {
+            complain(&mut to.messages, name, why);
             UNREAD
         }
         Ending::Changed => {
-            complain_of_change(name);
+            complain_of_change(&mut to.messages, name);
             UNREAD
         }
         Ending::Whole => answer_bytes(
+            to,
             choice,
             page,
             batch,
@@ -257,7 +254,10 @@ fn front(bytes: &[u8], n: usize) -> &[u8]
     &bytes[..n]
 }
 
-fn answer_file(
+// Each name has a number, its argument's.
+fn answer_file<R: Files, O: Write, E: Write>(
+    system: &R,
+    to: &mut Outputs<O, E>,
     choice: BaseChoice,
     page: &mut [u8; PAGE_BYTES],
     text: &mut [u8; NAME_BYTES],
@@ -266,34 +266,40 @@ fn answer_file(
     records: &mut [u32; RECORD_WORDS],
     bytes: &mut [u8],
     name: &[u8],
+    number: usize,
     among_several: bool,
 ) -> u8
+where
+    R::File: IsTerminal,
     requires { length name.now ≤ 4096 }
 {
-    let fd = os::open_read(name);
+    let opened = files::open(system, name, number);
     let n = names::shown(name, text);
     let shown = front(text, n);
-    if fd < 0 {
-        complain(shown);
-        return UNREAD;
+    match opened {
+        Ok(mut file) => answer_input(
+            to,
+            choice,
+            page,
+            batch,
+            state,
+            records,
+            bytes,
+            &mut file,
+            shown,
+            among_several,
+        ),
+        Err(why) => {
+            complain(&mut to.messages, shown, why);
+            UNREAD
+        }
     }
-    let status = answer_input(
-        choice,
-        page,
-        batch,
-        state,
-        records,
-        bytes,
-        fd,
-        shown,
-        among_several,
-    );
-    libc::close(fd);
-    status
 }
 
 // An argument that is longer than any path fills the buffer, and no path is as long as that.
-fn answer_argument(
+fn answer_argument<R: Env + Files, O: Write, E: Write>(
+    system: &R,
+    to: &mut Outputs<O, E>,
     choice: BaseChoice,
     page: &mut [u8; PAGE_BYTES],
     text: &mut [u8; NAME_BYTES],
@@ -303,23 +309,15 @@ fn answer_argument(
     bytes: &mut [u8],
     i: usize,
     among_several: bool,
-) -> u8 {
-    let mut name = io::buffer();
-    let n = os::arg(i, &mut name);
-    if os::errno() == libc::ENAMETOOLONG {
-        return answer_file(
-            choice,
-            page,
-            text,
-            batch,
-            state,
-            records,
-            bytes,
-            &name,
-            among_several,
-        );
-    }
+) -> u8
+where
+    R::File: IsTerminal,
+{
+    let mut name = [0u8; ARGUMENT_BYTES];
+    let n = arguments::front(system, i, &mut name);
     answer_file(
+        system,
+        to,
         choice,
         page,
         text,
@@ -327,12 +325,15 @@ fn answer_argument(
         state,
         records,
         bytes,
-        &name[..n],
+        front(&name, n),
+        i,
         among_several,
     )
 }
 
-fn answer_arguments(
+fn answer_arguments<R: Env + Files, O: Write, E: Write>(
+    system: &R,
+    to: &mut Outputs<O, E>,
     choice: BaseChoice,
     page: &mut [u8; PAGE_BYTES],
     text: &mut [u8; NAME_BYTES],
@@ -341,11 +342,16 @@ fn answer_arguments(
     records: &mut [u32; RECORD_WORDS],
     bytes: &mut [u8],
     count: usize,
-) -> u8 {
+) -> u8
+where
+    R::File: IsTerminal,
+{
     let mut worst = ACCEPTED;
     let mut i = 2;
     while i < count && worst < UNWRITTEN {
         let status = answer_argument(
+            system,
+            to,
             choice,
             page,
             text,
@@ -363,29 +369,36 @@ fn answer_arguments(
 }
 
 // The buffers are made once, whatever the number of files: clearing them for each would take longer than the check.
-fn main() {
-    let choice = asked();
+fn main(rt: HostRuntime) {
+    let mut to = Outputs {
+        printout: rt.stdout(),
+        messages: rt.stderr(),
+    };
+    let choice = asked(&rt);
     let mut page = [0u8; PAGE_BYTES];
     let mut text = [0u8; NAME_BYTES];
     let mut batch = [0u32; 4096];
     let mut state = [0u32; 4096];
     let mut records = [0u32; RECORD_WORDS];
     let mut bytes = [0u8; MOST_BYTES];
-    let count = os::arg_count();
+    let count = arguments::count(&rt);
     let status = if count < 3 {
         answer_input(
+            &mut to,
             choice,
             &mut page,
             &mut batch,
             &mut state,
             &mut records,
             &mut bytes,
-            STDIN_FILENO,
+            &mut rt.stdin(),
             b"standard input",
             false,
         )
     } else {
         answer_arguments(
+            &rt,
+            &mut to,
             choice,
             &mut page,
             &mut text,
@@ -396,5 +409,5 @@ fn main() {
             count,
         )
     };
-    io::write_all(3, &reports::status_line(status));
+    let _ = descriptors::report(&rt, &reports::status_line(status));
 }

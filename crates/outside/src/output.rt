@@ -1,0 +1,80 @@
+// Writing in whole, and saying what failed.
+ghost use Rattle.std.specs.Prelude.{◌≡◌, ◌≤◌, ◌++◌, ℕ, List, length, take, codes, OnOk};
+ghost use Rattle.std.specs.Bool.{OnTrue};
+ghost use Rattle.std.specs.Io.KnownBytes.{Appends};
+
+use arrayvec::ArrayString;
+use std::fmt::Write as _;
+use std::io;
+use std::io::{ErrorKind, Write};
+
+// The system's longest words for a failure have some fifty bytes; std puts the failure's number behind them.
+const WORDS_BYTES: usize = 256;
+
+// Where a program writes what it was asked for, and where it says what failed.
+#[derive(Drop)]
+pub struct Outputs<O, E> {
+    pub printout: O,
+    pub messages: E,
+}
+
+// Writes all of a text, or stops at the first write that takes nothing or fails.
+pub fn write_all<W: Write>(to: &mut W, text: &[u8]) -> io::Result<()>
+    ensures whole { OnOk result (Appends (W.contents to.old) (W.contents to.new) text.now) }
+    ensures front { (n : ℕ) × (n ≤ length text.now) × Appends (W.contents to.old) (W.contents to.new) (take n text.now) }
+{
+    let mut done = 0;
+    while done < text.len() {
+        let n = to.write(&text[done..])?;
+        if n == 0 {
+            return Err(io::Error::from(ErrorKind::WriteZero));
+        }
+        done += n;
+    }
+    Ok(())
+}
+
+// The words for a failure, as std has them: the system's, and behind them its number.
+fn words_of(failure: io::Error) -> ArrayString<WORDS_BYTES> {
+    let mut words = ArrayString::new();
+    let _ = write!(words, "{failure}");
+    words
+}
+
+// The system's words alone.
+fn without_number(words: &str) -> &str {
+    match words.rsplit_once(" (os error ") {
+        Some((front, _)) => front,
+        None => words,
+    }
+}
+
+// Writes a line: what failed, a colon, and the system's words for why.
+pub fn tell_failure<W: Write>(to: &mut W, what: &[u8], failure: io::Error) -> io::Result<()>
+    ensures { OnOk result ((words : List ℕ) × Appends (W.contents to.old) (W.contents to.new) (what.now ++ codes ": " ++ words ++ codes "\n")) }
+{
+    let words = words_of(failure);
+    write_all(to, what)?;
+    write_all(to, b": ")?;
+    write_all(to, without_number(words.as_str()).as_bytes())?;
+    write_all(to, b"\n")
+}
+
+impl<O: Write, E: Write> Outputs<O, E> {
+    // Writes a text to the printout, and says why if that cannot be done.
+    pub fn print(&mut self, text: &[u8]) -> bool
+        ensures { OnTrue result (Appends (O.contents self.old.printout) (O.contents self.new.printout) text.now) }
+    {
+        match write_all(&mut self.printout, text) {
+            Ok(()) => true,
+            Err(why) => {
+                let _ = tell_failure(
+                    &mut self.messages,
+                    b"lungevati: the output could not be written",
+                    why,
+                );
+                false
+            }
+        }
+    }
+}
