@@ -11,7 +11,7 @@ pub mod parts;
 pub mod why;
 
 // Why a file was not read.
-#[derive(Drop)]
+#[derive(Clone, Copy)]
 pub enum Unread {
     NoSuchFile,
     NotAllowed,
@@ -25,7 +25,7 @@ pub enum Unread {
 
 // What happened at a refusal, beside its reason: the row of the command; for 13 the address that it uses with it, how many bytes, and where
 // they should lie; or the file's size, where that is known.
-#[derive(Drop)]
+#[derive(Clone, Copy)]
 pub enum Detail {
     NoMore,
     InCommand(usize),

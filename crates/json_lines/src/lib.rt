@@ -19,7 +19,7 @@ mod reasons;
 pub const RULES: [u8; 16] = *b"01+1+2+3+4+5+6+7";
 
 // What is told of a file in numbers.
-#[derive(Drop)]
+#[derive(Clone, Copy)]
 pub struct Told {
     pub outcome: Outcome,
     pub size: Number,
@@ -30,7 +30,7 @@ pub struct Told {
     pub count: Number,
 }
 
-#[derive(Drop)]
+#[derive(Clone, Copy)]
 pub struct Totals {
     pub accepted: u64,
     pub refused: u64,

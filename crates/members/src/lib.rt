@@ -12,13 +12,13 @@ use lines::{MOST_DIGITS, put_byte, put_digits, put_hex, put_text};
 use rules::BaseChoice;
 
 // A number, or null.
-#[derive(Drop)]
+#[derive(Clone, Copy)]
 pub enum Number {
     Is(u64),
     Null,
 }
 
-#[derive(Drop)]
+#[derive(Clone, Copy)]
 pub enum Outcome {
     Accepted,
     Refused,

@@ -1,6 +1,5 @@
 -- `not_judged` meets its contract.
 -- Assumes nothing.
-use borrow.Author.Rules.{rules}
 use Rattle.json_lines.specs.Objects.{not_judged}
 use mathlib.Core.Path.{refl}
 use Rattle.json_lines.proofs.not_judged.Statement.{statement}

@@ -14,13 +14,13 @@ returns c =
     let unread = missing.before.before.before.before.before in
     let refused = unread.before.before.before.before.before in
     let accepted = refused.before.before.before.before.before in
-    let judged = then accepted.put-number.ensures refused.put-number2.ensures in
-    let listed = then (then judged unread.put-number3.ensures) missing.put-number4.ensures in
-    at_most (search rules) (then listed unlisted.put-number5.ensures)
+    let judged = then accepted.put_number-refused.ensures refused.put_number-unread.ensures in
+    let listed = then (then judged unread.put_number-missing.ensures) missing.put_number-unlisted.ensures in
+    at_most (search rules) (then listed unlisted.put_number.ensures)
 
 pub put_counts_spec : {M : Type 1} → statement M
 put_counts_spec =
     tie.close
-    (tie.spec (λ c. search rules) (λ c κs. search rules) (λ c. search rules) (λ c κs. search rules) (λ c. search rules)
-    (λ c κs. search rules) (λ c. search rules) (λ c κs. search rules) (λ c. search rules) (λ c κs. search rules)
+    (tie.spec (λ c κs. search rules) (λ c κs. search rules)
+    (λ c κs. search rules) (λ c κs. search rules) (λ c κs. search rules)
     (λ c. search rules) returns)

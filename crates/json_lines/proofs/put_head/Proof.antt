@@ -12,10 +12,10 @@ returns c =
     let outcome = c.before.before in
     let size = outcome.before.before.before.before in
     let name = size.before.before.before.before.before in
-    at_most (search rules) (then (then name.put-string.ensures size.put-member.ensures) outcome.put-outcome.ensures)
+    at_most (search rules) (then (then name.put_string-second.ensures size.put_member-third.ensures) outcome.put_outcome.ensures)
 
 pub put_head_spec : {M : Type 1} → statement M
 put_head_spec =
     tie.close
-    (tie.spec (λ c. search rules) (λ c κs. search rules) (λ c. search rules) (λ c κs. search rules) (λ c κs. search rules)
+    (tie.spec (λ c κs. search rules) (λ c κs. search rules) (λ c κs. search rules)
     (λ c. search rules) returns)

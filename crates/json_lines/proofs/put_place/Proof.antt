@@ -13,11 +13,11 @@ returns c =
     let dword = count.before.before.before.before.before in
     let index = dword.before.before.before.before in
     let window = index.before.before.before.before.before in
-    let place = then window.put-member.ensures index.put-member2.ensures in
-    at_most (search rules) (then (then place dword.put-dword.ensures) count.put-member3.ensures)
+    let place = then window.put_member-second.ensures index.put_member-third.ensures in
+    at_most (search rules) (then (then place dword.put_dword-last.ensures) count.put_member.ensures)
 
 pub put_place_spec : {M : Type 1} → statement M
 put_place_spec =
     tie.close
-    (tie.spec (λ c. search rules) (λ c κs. search rules) (λ c. search rules) (λ c κs. search rules) (λ c κs. search rules)
-    (λ c. search rules) (λ c κs. search rules) (λ c. search rules) returns)
+    (tie.spec (λ c κs. search rules) (λ c κs. search rules) (λ c κs. search rules)
+    (λ c κs. search rules) (λ c. search rules) returns)

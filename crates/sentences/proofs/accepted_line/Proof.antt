@@ -11,9 +11,9 @@ unfolding accepted_line
 returns c =
     let commands = c.before.before in
     let name = commands.before.before in
-    whole (search rules) (then (then name.put_both.ensures commands.put-commands.ensures) c.put_byte.ensures)
+    whole (search rules) (then (then name.put_both-number.ensures commands.put_commands-end.ensures) c.put_byte.ensures)
 
 pub accepted_line_spec : {M : Type 1} → statement M
 accepted_line_spec =
     tie.close
-    (tie.spec (λ c. search rules) (λ c κs. search rules) (λ c κs. search rules) (λ c κs. search rules) returns)
+    (tie.spec (λ c κs. search rules) (λ c κs. search rules) (λ c κs. search rules) returns)

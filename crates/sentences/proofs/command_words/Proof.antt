@@ -6,7 +6,7 @@ use Rattle.sentences.proofs.command_words.Statement.{statement}
 use Rattle.sentences.proofs.command_words.Tie as tie
 
 returns : tie.Need-returns
-returns c = whole (search rules) (rw c.before.command-row.ensures at c.put-row.ensures)
+returns c = whole (search rules) (rw c.command_row.ensures at c.put_row.ensures)
 
 pub command_words_spec : {M : Type 1} → statement M
 command_words_spec = tie.close (tie.spec (λ c κs. search rules) (λ c κs. search rules) returns)

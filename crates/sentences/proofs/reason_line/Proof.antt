@@ -13,11 +13,11 @@ returns c =
     let row = words.before in
     let number = row.before.before in
     let count = number.before.before.before in
-    let numbers = then count.put_count.ensures number.put-count2.ensures in
-    whole (search rules) (then (then numbers (rw row.reason-row.ensures at words.put-row.ensures)) c.put_byte.ensures)
+    let numbers = then count.put_count-number.ensures number.put_count-words.ensures in
+    whole (search rules) (then (then numbers (rw row.reason_row.ensures at words.put_row-end.ensures)) c.put_byte.ensures)
 
 pub reason_line_spec : {M : Type 1} → statement M
 reason_line_spec =
     tie.close
-    (tie.spec (λ c. search rules) (λ c κs. search rules) (λ c. search rules) (λ c κs. search rules) (λ c κs. search rules)
+    (tie.spec (λ c κs. search rules) (λ c κs. search rules) (λ c κs. search rules)
     (λ c κs. search rules) (λ c κs. search rules) returns)

@@ -14,12 +14,12 @@ returns c =
     let progress = colon.before.before.before in
     let number = progress.before.before in
     let name = number.before.before.before in
-    let place = then (then name.put_both.ensures number.put_digits.ensures) progress.put-progress.ensures in
-    let refusal = then (then place colon.put-text.ensures) words.put-refusal.ensures in
+    let place = then (then name.put_both-number.ensures number.put_digits-place.ensures) progress.put_progress-colon.ensures in
+    let refusal = then (then place colon.put_text-words.ensures) words.put_refusal-end.ensures in
     whole (search rules) (then refusal c.put_byte.ensures)
 
 pub refused_line_spec : {M : Type 1} → statement M
 refused_line_spec =
     tie.close
-    (tie.spec (λ c. search rules) (λ c κs. search rules) (λ c. search rules) (λ c κs. search rules) (λ c κs. search rules)
-    (λ c. search rules) (λ c κs. search rules) (λ c κs. search rules) (λ c κs. search rules) returns)
+    (tie.spec (λ c κs. search rules) (λ c. search rules) (λ c κs. search rules) (λ c κs. search rules)
+    (λ c κs. search rules) (λ c κs. search rules) (λ c κs. search rules) returns)

@@ -6,4 +6,4 @@ use Rattle.sentences.proofs.refused_words.Statement.{statement}
 use Rattle.sentences.proofs.refused_words.Tie as tie
 
 pub refused_words_spec : {M : Type 1} → statement M
-refused_words_spec = tie.close (tie.spec (λ c κs. search rules) (λ c. whole (search rules) c.put-refusal.ensures))
+refused_words_spec = tie.close (tie.spec (λ c κs. search rules) (λ c. whole (search rules) c.put_refusal.ensures))

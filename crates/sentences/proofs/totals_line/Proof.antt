@@ -14,12 +14,12 @@ returns c =
     let unread = missing.before.before.before in
     let refused = unread.before.before.before in
     let accepted = refused.before.before.before in
-    let judged = then accepted.put_count.ensures refused.put-count2.ensures in
-    let counted = then (then judged unread.put-count3.ensures) missing.put-count4.ensures in
-    whole (search rules) (then (then counted base.put-base.ensures) c.put_byte.ensures)
+    let judged = then accepted.put_count-second.ensures refused.put_count-third.ensures in
+    let counted = then (then judged unread.put_count-fourth.ensures) missing.put_count-base.ensures in
+    whole (search rules) (then (then counted base.put_base-end.ensures) c.put_byte.ensures)
 
 pub totals_line_spec : {M : Type 1} → statement M
 totals_line_spec =
     tie.close
-    (tie.spec (λ c. search rules) (λ c κs. search rules) (λ c. search rules) (λ c κs. search rules) (λ c. search rules)
-    (λ c κs. search rules) (λ c. search rules) (λ c κs. search rules) (λ c κs. search rules) (λ c κs. search rules) returns)
+    (tie.spec (λ c κs. search rules) (λ c κs. search rules)
+    (λ c κs. search rules) (λ c κs. search rules) (λ c κs. search rules) (λ c κs. search rules) returns)

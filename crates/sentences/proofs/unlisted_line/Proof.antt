@@ -11,4 +11,4 @@ unfolding unlisted_line
 returns c = whole (search rules) c.put_both.ensures
 
 pub unlisted_line_spec : {M : Type 1} → statement M
-unlisted_line_spec = tie.close (tie.spec (λ c. search rules) (λ c κs. search rules) returns)
+unlisted_line_spec = tie.close (tie.spec (λ c κs. search rules) returns)

@@ -11,4 +11,4 @@ unfolding unlisted_total
 returns c = whole (search rules) c.put_count.ensures
 
 pub unlisted_total_spec : {M : Type 1} → statement M
-unlisted_total_spec = tie.close (tie.spec (λ c. search rules) (λ c κs. search rules) returns)
+unlisted_total_spec = tie.close (tie.spec (λ c κs. search rules) returns)

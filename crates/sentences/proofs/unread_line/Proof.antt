@@ -12,7 +12,7 @@ returns c =
     let words = c.before.before in
     let verdict = words.before.before in
     let name = verdict.before.before in
-    let why = then (then name.put-text.ensures verdict.put-verdict.ensures) words.put-unread.ensures in
+    let why = then (then name.put_text-verdict.ensures verdict.put_verdict-words.ensures) words.put_unread-end.ensures in
     whole (search rules) (then why c.put_byte.ensures)
 
 pub unread_line_spec : {M : Type 1} → statement M

@@ -6,4 +6,4 @@ use Rattle.sentences.proofs.unread_words.Statement.{statement}
 use Rattle.sentences.proofs.unread_words.Tie as tie
 
 pub unread_words_spec : {M : Type 1} → statement M
-unread_words_spec = tie.close (tie.spec (λ c κs. search rules) (λ c. whole (search rules) c.put-unread.ensures))
+unread_words_spec = tie.close (tie.spec (λ c κs. search rules) (λ c. whole (search rules) c.put_unread.ensures))

@@ -16,13 +16,13 @@ returns c =
     let place = number.before.before.before in
     let name = place.before.before.before in
     let front = name.before.before.before in
-    let named = then front.put-text.ensures name.put_both.ensures in
-    let numbers = then (then named place.put_count.ensures) number.put-count2.ensures in
-    whole (omega (arith, front.before)) (then (then numbers (rw row.writing-row.ensures at words.put-row.ensures)) c.put_byte.ensures)
+    let named = then front.put_text-file.ensures name.put_both-place.ensures in
+    let numbers = then (then named place.put_count-refusal.ensures) number.put_count-words.ensures in
+    whole (omega (arith, front.before)) (then (then numbers (rw row.writing_row.ensures at words.put_row-end.ensures)) c.put_byte.ensures)
 
 pub writing_line_spec : {M : Type 1} → statement M
 writing_line_spec =
     tie.close
-    (tie.spec (λ c. search rules) (λ c κs. search rules) (λ c. search rules) (λ c κs. search rules) (λ c. search rules)
-    (λ c κs. search rules) (λ c. search rules) (λ c κs. search rules) (λ c κs. search rules) (λ c κs. search rules)
+    (tie.spec (λ c κs. search rules) (λ c κs. search rules)
+    (λ c κs. search rules) (λ c κs. search rules) (λ c κs. search rules) (λ c κs. search rules)
     (λ c κs. search rules) returns)

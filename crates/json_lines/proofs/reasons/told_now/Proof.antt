@@ -5,11 +5,11 @@ use borrow.Author.Tests.{eq-eqb, ne_eqb}
 use Rattle.json_lines.proofs.reasons.told_now.Statement.{statement}
 use Rattle.json_lines.proofs.reasons.told_now.Tie as tie
 
-returns : tie.Need-returns
-returns c = simp (eq-eqb _ _ c.if1.true) (search rules)
+returns : tie.Need-returns-then-n-eq0
+returns c = simp (eq-eqb _ _ c.if-n-eq0.true) (search rules)
 
-returns_2 : tie.Need-returns-2
-returns_2 c = simp (ne_eqb _ _ c.if1.false)
+returns_2 : tie.Need-returns-else-n-eq0
+returns_2 c = simp (ne_eqb _ _ c.if-n-eq0.false)
 
 pub told_now_spec : {M : Type 1} → statement M
 told_now_spec =
