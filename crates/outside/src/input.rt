@@ -1,5 +1,5 @@
 // Reading: into a buffer until it is full or the input ends, and whether an input goes on behind its end.
-ghost use Rattle.std.specs.Prelude.{◌≡◌, ◌+◌, ◌<◌, ◌≤◌, length, take, drop, IsNone, IfOk, OnErr};
+ghost use Rattle.std.specs.Prelude.{◌≡◌, ◌≢◌, ◌+◌, ◌<◌, ◌≤◌, [], Ok, true, length, take, drop, IsNone, IfOk, IfSome, OnErr};
 ghost use Rattle.std.specs.Io.KnownBytes.{Consumes, IsAtEnd, Keeps};
 
 use std::io;
@@ -55,7 +55,9 @@ pub fn fill<R: Read>(input: &mut R, bytes: &mut [u8]) -> Filled
 }
 
 // Whether an input goes on behind its end, since it has grown. A terminal is not asked: it would wait for a second end.
-pub fn goes_on<R: Read + IsTerminal>(input: &mut R) -> io::Result<bool> {
+pub fn goes_on<R: Read + IsTerminal>(input: &mut R) -> io::Result<bool>
+    ensures more { result ≡ Ok true → IfSome (R.remaining input.old) (λ xs. xs ≢ []) }
+{
     if input.is_terminal() {
         return Ok(false);
     }

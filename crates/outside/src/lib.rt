@@ -7,3 +7,5 @@ pub mod descriptors;
 pub mod files;
 pub mod input;
 pub mod output;
+#[cfg(test)]
+mod tests;

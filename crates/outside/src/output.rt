@@ -1,5 +1,5 @@
 // Writing in whole, and saying what failed.
-ghost use Rattle.std.specs.Prelude.{◌≡◌, ◌≤◌, ◌++◌, ℕ, List, length, take, codes, OnOk};
+ghost use Rattle.std.specs.Prelude.{◌≡◌, ◌≤◌, ◌++◌, ℕ, List, [], length, take, codes, IsOk, IsTrue, OnOk};
 ghost use Rattle.std.specs.Bool.{OnTrue};
 ghost use Rattle.std.specs.Io.KnownBytes.{Appends};
 
@@ -21,6 +21,7 @@ pub struct Outputs<O, E> {
 // Writes all of a text, or stops at the first write that takes nothing or fails.
 pub fn write_all<W: Write>(to: &mut W, text: &[u8]) -> io::Result<()>
     ensures whole { OnOk result (Appends (W.contents to.old) (W.contents to.new) text.now) }
+    ensures empty { text.now ≡ [] → IsOk result }
     ensures front { (n : ℕ) × (n ≤ length text.now) × Appends (W.contents to.old) (W.contents to.new) (take n text.now) }
 {
     let mut done = 0;
@@ -63,7 +64,8 @@ pub fn tell_failure<W: Write>(to: &mut W, what: &[u8], failure: io::Error) -> io
 impl<O: Write, E: Write> Outputs<O, E> {
     // Writes a text to the printout, and says why if that cannot be done.
     pub fn print(&mut self, text: &[u8]) -> bool
-        ensures { OnTrue result (Appends (O.contents self.old.printout) (O.contents self.new.printout) text.now) }
+        ensures empty { text.now ≡ [] → IsTrue result }
+        ensures whole { OnTrue result (Appends (O.contents self.old.printout) (O.contents self.new.printout) text.now) }
     {
         match write_all(&mut self.printout, text) {
             Ok(()) => true,
