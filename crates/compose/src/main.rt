@@ -123,10 +123,8 @@ fn put_dwords(page: &mut [u8; PAGE_BYTES], dwords: &[u32]) -> usize
     ensures { result ≤ length page.new }
 {
     let mut at = 0;
-    let mut i = 0;
-    while i < dwords.len() {
-        at = put_dword(page, at, dwords[i]);
-        i += 1;
+    for dword in dwords {
+        at = put_dword(page, at, *dword);
     }
     at
 }

@@ -32,14 +32,12 @@ pub(crate) fn hexadecimal(word: &[u8]) -> Value {
         return Value::Nothing;
     }
     let mut x: u32 = 0;
-    let mut i = 0;
-    while i < word.len() {
-        let d = digit(word[i]);
+    for byte in word {
+        let d = digit(*byte);
         if 15 < d {
             return Value::Nothing;
         }
         x = (x << 4) | d;
-        i += 1;
     }
     Value::Is(x)
 }
@@ -56,9 +54,8 @@ fn fitting(x: u64) -> Value {
 // A decimal number that fits 32 bits.
 fn decimal(word: &[u8]) -> Value {
     let mut x: u64 = 0;
-    let mut i = 0;
-    while i < word.len() {
-        let d = digit(word[i]);
+    for byte in word {
+        let d = digit(*byte);
         if 9 < d {
             return Value::Nothing;
         }
@@ -66,7 +63,6 @@ fn decimal(word: &[u8]) -> Value {
             return Value::Nothing;
         }
         x = 10 * x + d as u64;
-        i += 1;
     }
     fitting(x)
 }
@@ -76,13 +72,11 @@ fn named(word: &[u8]) -> Value
     ensures { Named word.now result }
 {
     let mut name = [0u8; WORDS_BYTES];
-    let mut row = 0;
-    while row < ROWS {
+    for row in 0..ROWS {
         let n = sentences::command_words(&mut name, row);
         if &name[..n] == word {
             return Value::Is(row as u32);
         }
-        row += 1;
     }
     Value::Nothing
 }
