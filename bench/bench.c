@@ -238,7 +238,7 @@ static struct lungevati_answer ask(check_call *check)
     return check(batch, batch_len, BATCH_AT, state, state_len, STATE_AT, SCRATCH_AT, SCRATCH_LEN, records, records_len);
 }
 
-/* The processor, or the emulator, raises a signal after each instruction while the trap flag is set. */
+/* The processor raises a signal after each instruction while the trap flag is set. */
 static volatile uint64_t steps;
 static void step(int number)
 {
