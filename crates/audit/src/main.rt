@@ -472,7 +472,18 @@ fn tell_short<O: Write, E: Write>(
     tell_shown(to, wish, text, n, look, line)
 }
 
-// The line for any name; of one that is longer than any path the first bytes are shown.
+// As much of a name as is shown: of one that is longer than any path the first bytes.
+fn shortened(name: &[u8]) -> &[u8]
+    ensures { length result.now ≤ 4096 }
+{
+    if 4096 < name.len() {
+        &name[..4096]
+    } else {
+        name
+    }
+}
+
+// The line for any name.
 fn tell<O: Write, E: Write>(
     to: &mut Outputs<O, E>,
     wish: Wish,
@@ -484,10 +495,7 @@ fn tell<O: Write, E: Write>(
     if wish.quiet && kind_of(look) == ACCEPTED {
         return true;
     }
-    if 4096 < name.len() {
-        return tell_short(to, wish, &name[..4096], look, text, line);
-    }
-    tell_short(to, wish, name, look, text, line)
+    tell_short(to, wish, shortened(name), look, text, line)
 }
 
 // ---- the totals
@@ -536,8 +544,7 @@ fn write_reasons<O: Write, E: Write>(
     line: &mut [u8; LINE_BYTES],
     reasons: &[u64; REASONS],
 ) -> bool {
-    let mut reason = 1;
-    while reason < REASONS {
+    for reason in 1..REASONS {
         let n = reasons[reason];
         if n != 0 {
             let end = sentences::reason_line(line, reason as u32, n);
@@ -545,7 +552,6 @@ fn write_reasons<O: Write, E: Write>(
                 return false;
             }
         }
-        reason += 1;
     }
     true
 }
