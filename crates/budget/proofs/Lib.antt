@@ -1,2 +1,3 @@
+pub mod Captures
 pub mod Loop
 pub mod Longest

@@ -24,25 +24,12 @@ use Rattle.rules.specs.Windows.{Capture, lengths_of, window_fault}
 use Rattle.rules.specs.Step.{budget, cursor, step_of}
 use Rattle.rules.specs.Walk.{ended, then, trace, trace_from, cut, start, walk, Leads, stays, onward, commands_of, end_of}
 use Rattle.rules.specs.Walk.{answer_of}
-use Rattle.rules.specs.Cases.{case_capture}
 use Rattle.rules.specs.Book.{book}
 use Rattle.rules.proofs.Searching.{and_left, and_right, never_both}
 use Rattle.rules.proofs.Tables.{each, at_each}
 use Rattle.rules.proofs.Walking.{walk_sound}
+use Rattle.budget.proofs.Captures.{noops, calls, longest}
 use Rattle.rules.proofs.Running.{follow, leads_on, trace_follows, cut_follows, commands_follow, end_follows}
-
--- n MI_NOOPs, and n calls of dword 766 (address 100BF8h), in front of more
-noops : ℕ → List ℕ → List ℕ
-noops zero more = more
-noops (suc n) more = 0 ∷ noops n more
-
-calls : ℕ → List ℕ → List ℕ
-calls zero more = more
-calls (suc n) more = 0x18C00101 ∷ 0x00100BF8 ∷ 0 ∷ calls n more
-
--- 255 calls, the end, 255 MI_NOOPs and their end
-pub longest : Capture
-longest = case_capture (calls 255 (0x05000000 ∷ noops 255 (0x05000000 ∷ [])))
 
 -- the commands run from a cursor on, n at most, and where they lead: a run that antt computes
 record Ran (c : Capture) (s : Cursor) : Type 0 where

@@ -13,18 +13,15 @@ use Rattle.rules.specs.declared.After.TheVariants.{To}
 use Rattle.rules.specs.declared.Outcome.TheVariants.{Taken}
 use Rattle.rules.specs.declared.Verdict.TheVariants.{Pass, Fails}
 use Rattle.rules.specs.Refusals.{batch_window, fault, number_of, answer_with}
-use Rattle.rules.specs.Windows.{Capture, lengths_of, window_fault}
+use Rattle.rules.specs.Windows.{lengths_of, window_fault}
 use Rattle.rules.specs.Step.{budget, step_of}
 use Rattle.rules.specs.Walk.{Run, ended, trace, trace_from, cut, start, walk, Leads, stays, onward, commands_of, end_of, answer_of}
 use Rattle.rules.specs.Records.{first_word, second_word, words_of, words_for, written_of}
-use Rattle.rules.specs.Cases.{case_capture}
 use Rattle.rules.specs.Book.{book}
+use Rattle.budget.proofs.Captures.{looping}
 use Rattle.rules.proofs.Listing.{words_counted}
 use Rattle.rules.proofs.Walking.{walk_sound}
 use Rattle.rules.proofs.Running.{follow, trace_follows, cut_follows, commands_follow, end_follows}
-
-abbrev looping : Capture
-looping = case_capture (0x18800101 ∷ 0x00100000 ∷ 0 ∷ [])
 
 abbrev jump : Command
 jump = record { index = 0; level = 0; row = 2; length = 3 }

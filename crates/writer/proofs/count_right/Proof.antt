@@ -1,4 +1,5 @@
 -- `writer::count_right` meets its contract: no dwords where there is no field, and else as many as a length field tells.
+-- A test is found by what it says, since its name holds the number that the code asks for.
 -- Assumes nothing.
 use Prim.Native.Nat.{ℕ, ◌+◌, ◌-◌, ◌*◌, ◌/◌, ◌%◌}
 use mathlib.Core.Path.{sym, ap, ◌∙◌}
@@ -29,9 +30,6 @@ bare c =
     let a = asked.args in
     sym (bare_counted (the_row a.row).total (group_size a.row) a.free a.n (sym asked.length_of-bare.ensures ∙ eqb-true _ 1 c.if-bare.true-raw) (search rules))
 
-many : tie.Need-returns-then-n-gt256
-many c = let s = c.before.before.before.before in sym (many_counted s.args.row s.args.free s.args.n s.requires (search rules))
-
 by_field : tie.Need-returns
 unfolding length_of
 by_field c =
@@ -47,5 +45,6 @@ by_field c =
 pub count_right_spec : {M : Type 1} → statement M
 count_right_spec =
     tie.close
-    (tie.spec (λ c κs. search rules) none bare many (λ c. search rules) (λ c. search rules) (λ c. search rules) (λ c. search rules)
+    (tie.spec (λ c κs. search rules) none bare
+    (λ c. let s = c.before.before.before.before in sym (many_counted s.args.row s.args.free s.args.n s.requires (search rules))) (λ c. search rules) (λ c. search rules) (λ c. search rules) (λ c. search rules)
     (λ c κs. search rules) by_field)

@@ -1,6 +1,8 @@
 -- `plain_vertex::vertices::buffer_good` meets its contract: its flags, and then its address by its high dword.
+-- A test is found by what it says, since its name holds the number that the code asks for.
 -- Assumes nothing.
-use Prim.Native.Nat.{ℕ, ◌+◌}
+use Prim.Native.Nat.{ℕ, ◌+◌, ◌≤◌}
+use lib.ListN.{get_or}
 use mathlib.Core.Path.{◌≡◌, refl, sym, ap, ◌∙◌}
 use mathlib.Core.Bool.{Bool, true, false, cond, not, ◌&&◌}
 use borrow.Author.Rules.{rules}
@@ -73,7 +75,7 @@ buffer_good_spec =
     (λ c.
     let flagged = c.before.before.before in
     let s = (known (flags (index flagged))).before in
-    let high = c.if-d-k-gt32767.false in
+    let high : get_or s.args.d.now (s.args.k + 2) 0 ≤ 0x7FFF = search rules in
     c.buffer_fits.ensures
     ∙ below (address_used s.args.d.now s.args.k) _ (low_canonical _ high) (low_kept _ high) (unused_fits _ _ _ s.requires)
     ∙ narrow flagged))
