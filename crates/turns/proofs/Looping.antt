@@ -40,7 +40,7 @@ use Rattle.rules.proofs.Places.{refusal_place}
 use Rattle.rules.proofs.Moving.{Within, Way, ends, returns, jumps, calls, goes_on, taken_way, same_cursor, ends_nowhere}
 use Rattle.rules.proofs.Moving.{stays_within, starts_within}
 use Rattle.step.specs.Parts.{SmallBase}
-use Rattle.turns.specs.Running.{kept_at, stop_for, Ran}
+use Rattle.turns.specs.Running.{stop_for, Ran}
 
 -- the commands done stand in the record buffer, the rest of it is as it came, and the walk is these commands and then the run r
 pub record SoFar (base : Base) (c : Capture) (old new : List ℕ) (n : ℕ) (r : Run) : Type 0 where
@@ -241,12 +241,3 @@ module _ {base : Base} {c : Capture} {old new : List ℕ} {n : ℕ} {s : Cursor}
       ⊎_elim (λ q. (omega (arith, q.0), omega (arith, q.1), omega arith))
       (λ q. (omega (arith, q.0), omega (arith, q.1), omega arith))
       (refusal_place c s g.within e)
-
--- a level, put together from whether it is the second, and what it keeps
-pub same_second : (l : Level) → eqb (level_number l) 1 ≡ true → Second (kept_at l) ≡ l
-same_second First e = absurd (never_both e refl)
-same_second (Second back) e = refl
-
-pub same_first : (l : Level) → eqb (level_number l) 1 ≡ false → First ≡ l
-same_first First e = refl
-same_first (Second back) e = absurd (never_both refl e)

@@ -10,11 +10,6 @@ use Rattle.rules.specs.Step.{budget, spent_at}
 use Rattle.rules.specs.Walk.{trace_from, cut, start, answer_of}
 use Rattle.rules.specs.Records.{room_of, written_of}
 
--- the position that a level keeps, or 0 where it keeps none
-abbrev pub kept_at : Level → ℕ
-kept_at First = 0
-kept_at (Second back) = back
-
 -- why the run stops at a command that is not taken for this fault: behind the last command of the budget it is the budget's
 abbrev pub stop_for : Fault → ℕ → ℕ → Fault
 stop_for f at n = cond (eqb n budget) (spent_at at) f

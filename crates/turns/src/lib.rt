@@ -48,15 +48,18 @@ pub fn run<'a>(
         match step(plainly, batch, state, w, s, &masks, &formats) {
             Outcome::Refused(f) => return stopped(f, s.at, n),
             Outcome::Taken(command, after) => {
-                if n == room {
-                    return stopped(full(s.at), s.at, n);
-                }
                 match after {
                     After::Ends => {
+                        if n == room {
+                            return stopped(full(s.at), s.at, n);
+                        }
                         write_record(&mut records[2 * n..], turn.level, command);
                         return acceptance(n + 1);
                     }
                     After::To(t) => {
+                        if n == room {
+                            return stopped(full(s.at), s.at, n);
+                        }
                         write_record(&mut records[2 * n..], turn.level, command);
                         n += 1;
                         turn = turn_at(t);

@@ -1,10 +1,8 @@
-// Where a turn of the walk's loop stands: a cursor, made anew from its parts, which the compiler takes apart, and the number of its level.
+// Where a turn of the walk's loop stands: a cursor, and the number of its level.
 ghost use Rattle.std.specs.Prelude.{◌≡◌, eqb};
 ghost use Rattle.rules.specs.Step.{level_number};
-ghost use Rattle.turns.specs.Running.{kept_at};
 
-use onward::level_number;
-use rules::{Base, Cursor, Level};
+use rules::{Cursor, Level};
 
 fn is_second(level: Level) -> bool
     ensures { result ≡ eqb (level_number level) 1 }
@@ -12,50 +10,6 @@ fn is_second(level: Level) -> bool
     match level {
         Level::First => false,
         Level::Second(_) => true,
-    }
-}
-
-// The position that is kept, or 0 where none is.
-fn kept(level: Level) -> usize
-    ensures { result ≡ kept_at level }
-{
-    match level {
-        Level::First => 0,
-        Level::Second(back) => back,
-    }
-}
-
-// By a test, so that the compiler knows the tag for a 0 or a 1, and it can go into a record as it is.
-fn fresh_level(level: Level) -> Level
-    ensures { result ≡ level }
-{
-    if is_second(level) {
-        Level::Second(kept(level))
-    } else {
-        Level::First
-    }
-}
-
-fn fresh_base(base: Base) -> Base
-    ensures { result ≡ base }
-{
-    match base {
-        Base::Unset => Base::Unset,
-        Base::Set(b) => Base::Set(b),
-    }
-}
-
-// The cursor, made anew from its parts. A copy would carry the bytes between an enum's tag and its number from turn to turn, which costs
-// as much as the step itself; made anew, they are never written.
-fn fresh(s: Cursor) -> Cursor
-    ensures { result ≡ s }
-{
-    let level = s.level;
-    let base = s.base;
-    Cursor {
-        at: s.at,
-        level: fresh_level(level),
-        base: fresh_base(base),
     }
 }
 
@@ -67,13 +21,13 @@ pub struct Turn {
     pub level: usize,
 }
 
+// The number is made by a test, since the compiler then knows of it that it is 0 or 1, and it can go into a record as it is.
 pub fn turn_at(s: Cursor) -> Turn
     ensures { (result.cursor ≡ s) × (result.level ≡ level_number result.cursor.level) }
 {
-    let cursor = fresh(s);
-    let level = cursor.level;
+    let level = s.level;
     Turn {
-        cursor,
-        level: level_number(level),
+        cursor: s,
+        level: if is_second(level) { 1 } else { 0 },
     }
 }

@@ -2,7 +2,7 @@
 -- and then what it has still to give from here; beside it, the level that the turn has is its cursor's. Each way out of a turn, and the
 -- turn itself, is a law of Looping. The measure is what is left of the room.
 -- Assumes nothing.
-use Prim.Native.Nat.{◌+◌, ◌-◌, ◌*◌, ◌≤◌, ◌<◌}
+use Prim.Native.Nat.{◌+◌, ◌-◌, ◌*◌, ◌^◌, ◌≤◌, ◌<◌}
 use native.Mathlib.Omega.{arith}
 use mathlib.Core.Path.{◌≡◌, refl, sym, ap, ◌∙◌}
 use lib.ListN.{length}
@@ -49,18 +49,15 @@ at_start_lem : (c : tie.After-turn_at-turn invariant_loop decreases_loop)
     → c.turn_at-turn.result.cursor ≡ walk.start (start c.before.before).args.base
 at_start_lem c = c.turn_at-turn.ensures.0 ∙ c.started.ensures
 
--- the places of a turn: its head, the step, the command that it took, and that command where there is room for its record
+-- the places of a turn: its head, the step, and the command that it took
 abbrev turn : tie.After-step invariant_loop decreases_loop → tie.At-loop-f invariant_loop decreases_loop
 turn c = c.before.before.before.before
 
 abbrev stepped : tie.In-Taken invariant_loop decreases_loop → tie.After-step invariant_loop decreases_loop
 stepped c = c.before
 
-abbrev command : tie.Else-n-room invariant_loop decreases_loop → tie.In-Taken invariant_loop decreases_loop
-command c = c.before
-
-abbrev head : tie.Else-n-room invariant_loop decreases_loop → tie.At-loop-f invariant_loop decreases_loop
-head c = turn (stepped (command c))
+abbrev head : tie.In-Taken invariant_loop decreases_loop → tie.At-loop-f invariant_loop decreases_loop
+head c = turn (stepped c)
 
 abbrev lent : tie.At-loop-f invariant_loop decreases_loop → Capture
 lent l = let a = (start (counted l)).args in captured a.w a.batch.now a.state.now
@@ -78,17 +75,18 @@ took_then : (c : tie.In-Taken invariant_loop decreases_loop) {after : After} →
     → step_of (lent (turn (stepped c))) (turn (stepped c)).loop-f.turn.cursor ≡ Taken c.in-Taken.command after
 took_then c e = took c ∙ ap (Taken c.in-Taken.command) e
 
--- there is budget and room for one command more
-room_left : (c : tie.Else-n-room invariant_loop decreases_loop)
+-- there is budget and room for one command more, where so many are not done yet
+room_left : (c : tie.In-Taken invariant_loop decreases_loop) → ((head c).loop-f.n ≡ (counted (head c)).room_in-room.result → ⊥)
     → ((head c).loop-f.n < budget) × ((head c).loop-f.n < room_of (length (start (counted (head c))).args.records.now))
     × ((head c).loop-f.n < room_of (length (head c).loop-f.records)) × ((head c).loop-f.n < (counted (head c)).room_in-room.result)
-room_left c =
+room_left c more =
     let l = head c in
-    some_left l.loop-f.invariant.0 (counted l).room_in-room.ensures l.loop-f.invariant.1 c.if-n-room.false
+    some_left l.loop-f.invariant.0 (counted l).room_in-room.ensures l.loop-f.invariant.1 more
 
 -- so the two words of its record are there
-words_left : (c : tie.Else-n-room invariant_loop decreases_loop) → 2 * (head c).loop-f.n + 1 < length (head c).loop-f.records
-words_left c = omega (arith, (room_left c).2, room_is (length (head c).loop-f.records))
+words_left : (c : tie.In-Taken invariant_loop decreases_loop) → ((head c).loop-f.n ≡ (counted (head c)).room_in-room.result → ⊥)
+    → 2 * (head c).loop-f.n + 1 < length (head c).loop-f.records
+words_left c more = omega (arith, (room_left c more).2, room_is (length (head c).loop-f.records))
 
 -- the command's record can be made, with the level that is carried
 recordable : (c : tie.In-Taken invariant_loop decreases_loop)
@@ -121,43 +119,52 @@ returns c =
     let going = l.loop-f.invariant.0 in
     rw c.stopped.ensures (from_start (at_start_lem (begun l)) (stops going _ (λ h. refused going h (refused_for f))))
 
+-- the numbers of a stop for want of room are small
+small_there : (c : tie.In-Taken invariant_loop decreases_loop)
+    → (0 < 2 ^ 32) × ((head c).loop-f.turn.cursor.at < 2 ^ 32) × ((head c).loop-f.n < 2 ^ 32)
+small_there c = small_at (head c).loop-f.invariant.0 (start (counted (head c))).requires.1
+
 stopped_requires_2 : tie.Need-stopped-requires-then-n-room invariant_loop decreases_loop
-stopped_requires_2 c κs =
-    let l = turn (stepped c.before.before) in
-    let small = small_at l.loop-f.invariant.0 (start (counted l)).requires.1 in
-    rw c.full.ensures (small.0, small.1, small.1, small.2)
+stopped_requires_2 c κs = let small = small_there c.before.before.before in rw c.full.ensures (small.0, small.1, small.1, small.2)
+
+stopped_requires_3 : tie.Need-stopped-requires-then-n-room-2 invariant_loop decreases_loop
+stopped_requires_3 c κs =
+    let small = small_there c.before.before.before in
+    rw c.full-then-n-room-2.ensures (small.0, small.1, small.1, small.2)
 
 returns_2 : tie.Need-returns-then-n-room invariant_loop decreases_loop
 returns_2 c =
-    let no_room = c.before.before in
-    let taken = no_room.before in
-    let l = turn (stepped taken) in
+    let taken = c.before.before.before.before in
+    let l = head taken in
     let going = l.loop-f.invariant.0 in
     rw (c.stopped-then-n-room.ensures, c.full.ensures)
     (from_start (at_start_lem (begun l))
-    (stops going _ (λ h. full going h (none_left_there going (counted l).room_in-room.ensures no_room.if-n-room.true h) (took taken))))
+    (stops going _ (λ h. full going h (none_left_there going (counted l).room_in-room.ensures c.if-n-room.true h) (took taken))))
 
-returns_3 : tie.Need-returns-in-Ends invariant_loop decreases_loop
+returns_3 : tie.Need-returns-then-n-room-2 invariant_loop decreases_loop
 returns_3 c =
-    let written = c.before.before.before in
-    let told = written.before.before in
-    let room = told.before in
-    let left = room_left room in
-    let l = head room in
-    rw (c.acceptance.ensures, written.write_record.ensures, tail_written _ _ _ left.2)
+    let taken = c.before.before.before.before in
+    let l = head taken in
+    let going = l.loop-f.invariant.0 in
+    rw (c.stopped-then-n-room-2.ensures, c.full-then-n-room-2.ensures)
     (from_start (at_start_lem (begun l))
-    (last l.loop-f.invariant.0 left.0 left.1 (took_then (command room) told.in-Ends.is)))
+    (stops going _ (λ h. full going h (none_left_there going (counted l).room_in-room.ensures c.if-n-room-2.true h) (took taken))))
+
+returns_4 : tie.Need-returns-in-Ends invariant_loop decreases_loop
+returns_4 c =
+    let taken = c.before.before.before.before.before.before.before in
+    let left = room_left taken c.if-n-room.false in
+    let l = head taken in
+    rw (c.acceptance.ensures, c.write_record.ensures, tail_written _ _ _ left.2)
+    (from_start (at_start_lem (begun l)) (last l.loop-f.invariant.0 left.0 left.1 (took_then taken c.in-Ends.is)))
 
 loop_again : tie.Need-loop-f-preserved invariant_loop decreases_loop
 loop_again c =
-    let written = c.before.before.before in
-    let after = written.before.before in
-    let room = after.before in
-    let left = room_left room in
-    let l = head room in
-    let to = took_then (command room) (after.in-To.is ∙ ap To (sym c.turn_at-turn-in-To.ensures.0)) in
-    let going = next l.loop-f.invariant.0 left.0 left.1 to in
-    (rw (written.write_record-in-To.ensures, tail_written _ _ _ left.2) going, omega (arith, left.3), c.turn_at-turn-in-To.ensures.1)
+    let taken = c.before.before.before.before.before.before.before in
+    let left = room_left taken c.if-n-room-2.false in
+    let to = took_then taken (c.in-To.is ∙ ap To (sym c.turn_at-turn-in-To.ensures.0)) in
+    let going = next (head taken).loop-f.invariant.0 left.0 left.1 to in
+    (rw (c.write_record-in-To.ensures, tail_written _ _ _ left.2) going, omega (arith, left.3), c.turn_at-turn-in-To.ensures.1)
 
 pub run_spec : {M : Type 1} → statement M
 run_spec =
@@ -165,37 +172,37 @@ run_spec =
     (tie.spec invariant_loop decreases_loop (λ c κs. search rules) (λ c κs. search rules) (λ c κs. search rules) (λ c κs. search rules)
     loop_holds step_requires
     -- the command is not taken
-    (λ c. search rules) stopped_requires (λ c. search rules) returns
-    -- there is no room for its record
+    (λ c. search rules) stopped_requires (λ c. search rules) returns (λ c. search rules)
+    -- it is the last, and there is no room for its record
     (λ c. search rules) (λ c κs. search rules) stopped_requires_2 (λ c. search rules) returns_2
-    -- it is the last
-    (λ c. search rules)
-    (λ c. let left = words_left c.before in search rules)
-    (λ c. let left = words_left c.before in search rules)
-    (λ c. let left = words_left c.before in search rules)
-    (λ c. let left = words_left c.before in search rules)
-    (λ c. let left = words_left c.before in search rules)
+    -- or there is
+    (λ c. let left = words_left c.before.before c.if-n-room.false in search rules)
+    (λ c. let left = words_left c.before.before c.if-n-room.false in search rules)
+    (λ c. let left = words_left c.before.before c.if-n-room.false in search rules)
+    (λ c. let left = words_left c.before.before c.if-n-room.false in search rules)
+    (λ c. let left = words_left c.before.before c.if-n-room.false in search rules)
     (λ c κs.
-    let room = c.before.before in
-    let left = words_left room in
-    let fits = recordable (command room) in
+    let taken = c.before.before.before in
+    let left = words_left taken c.if-n-room.false in
+    let fits = recordable taken in
     (search rules, fits.0, fits.1))
-    (λ c. let told = c.before.before.before.before in let left = room_left told.before in search rules)
-    (λ c κs. let told = c.before.before.before.before in let left = room_left told.before in omega arith)
-    (λ c. search rules) returns_3
-    -- it goes on
-    (λ c. search rules)
-    (λ c. let left = words_left c.before in search rules)
-    (λ c. let left = words_left c.before in search rules)
-    (λ c. let left = words_left c.before in search rules)
-    (λ c. let left = words_left c.before in search rules)
-    (λ c. let left = words_left c.before in search rules)
+    (λ c. let left = room_left c.before.before.before.before.before.before c.if-n-room.false in search rules)
+    (λ c κs. let left = room_left c.before.before.before.before.before.before c.if-n-room.false in omega arith)
+    (λ c. search rules) returns_4
+    -- others come after it, and there is no room for its record
+    (λ c. search rules) (λ c κs. search rules) stopped_requires_3 (λ c. search rules) returns_3
+    -- or there is, and the run goes on
+    (λ c. let left = words_left c.before.before c.if-n-room-2.false in search rules)
+    (λ c. let left = words_left c.before.before c.if-n-room-2.false in search rules)
+    (λ c. let left = words_left c.before.before c.if-n-room-2.false in search rules)
+    (λ c. let left = words_left c.before.before c.if-n-room-2.false in search rules)
+    (λ c. let left = words_left c.before.before c.if-n-room-2.false in search rules)
     (λ c κs.
-    let room = c.before.before in
-    let left = words_left room in
-    let fits = recordable (command room) in
+    let taken = c.before.before.before in
+    let left = words_left taken c.if-n-room-2.false in
+    let fits = recordable taken in
     (search rules, fits.0, fits.1))
-    (λ c. let after = c.before.before.before.before in let left = room_left after.before in search rules)
+    (λ c. let left = room_left c.before.before.before.before.before.before c.if-n-room-2.false in search rules)
     (λ c κs. search rules)
-    (λ c. let after = c.before.before.before.before.before in let left = room_left after.before in omega arith)
+    (λ c. let left = room_left c.before.before.before.before.before.before.before c.if-n-room-2.false in omega arith)
     loop_again)
