@@ -263,7 +263,7 @@ fn part(bytes: &[u8], from: usize, to: usize) -> &[u8]
     &bytes[from..to]
 }
 
-// What an open file is. A longer file than any capture is not read further. Why a read fails is seen by another one.
+// What an open file is. A longer file than any capture is not read further.
 fn look_open<I: Read + Seek + IsTerminal>(
     choice: BaseChoice,
     from: &mut I,
@@ -272,7 +272,11 @@ fn look_open<I: Read + Seek + IsTerminal>(
     state: &mut [u32; 4096],
     records: &mut [u32; RECORD_WORDS],
 ) -> Look {
-    let n = input::fill(from, file).count;
+    let filled = input::fill(from, file);
+    if let Some(failure) = filled.failure {
+        return Look::NotRead(why(failure));
+    }
+    let n = filled.count;
     if n < MOST_BYTES {
         if let Rest::Lost(why) = read_on(from) {
             return Look::NotRead(why);
@@ -743,14 +747,18 @@ fn end_of(entry: &[u8], n: usize) -> usize
     names::name_end(&entry[..n], 0, 0)
 }
 
-// The entry at a place of the file of names, and the place of its NUL.
+// The entry at a place of the file of names, and the place of its NUL. One that does not begin with a letter is none.
 fn fetch<N: Read + Seek>(names: &mut N, at: usize, entry: &mut [u8; ENTRY]) -> io::Result<usize>
     requires { at < 0x10000000000 }
-    ensures { IfOk result (λ end. end ≤ length entry.new) }
+    ensures within { IfOk result (λ end. end ≤ length entry.new) }
+    ensures letter { IfOk result (λ end. 0 < end) }
 {
     names.seek(SeekFrom::Start(at as u64))?;
     let n = names.read(entry)?;
-    Ok(end_of(entry, n))
+    match end_of(entry, n) {
+        0 => Err(io::Error::from(ErrorKind::UnexpectedEof)),
+        end => Ok(end),
+    }
 }
 
 // The captures that the open file of names has.
@@ -779,10 +787,6 @@ where
     let mut number = 0;
     while at < size && run.whole {
         let end = match fetch(names, at, entry) {
-            Ok(0) => {
-                let ended = io::Error::from(ErrorKind::UnexpectedEof);
-                return names_lost(&mut to.messages, run, ended);
-            }
             Ok(end) => end,
             Err(failure) => return names_lost(&mut to.messages, run, failure),
         };
@@ -823,6 +827,34 @@ where
     }
 }
 
+// The captures that are asked for.
+fn audit<R: Env + Files, O: Write, E: Write>(
+    system: &R,
+    to: &mut Outputs<O, E>,
+    wish: Wish,
+    entry: &mut [u8; ENTRY],
+    text: &mut [u8; NAME_BYTES],
+    line: &mut [u8; LINE_BYTES],
+    file: &mut [u8; MOST_BYTES],
+    batch: &mut [u32; 4096],
+    state: &mut [u32; 4096],
+    records: &mut [u32; RECORD_WORDS],
+    reasons: &mut [u64; REASONS],
+) -> Run
+where
+    R::File: IsTerminal,
+{
+    if wish.stream {
+        return audit_stream(
+            system, to, wish, entry, text, line, file, batch, state, records, reasons,
+        );
+    }
+    let count = arguments::count(system);
+    audit_arguments(
+        system, to, wish, count, entry, text, line, file, batch, state, records, reasons,
+    )
+}
+
 // The end of a run: the totals are written, if every line before was, and the status is told.
 fn conclude<R: Files, O: Write, E: Write>(
     system: &R,
@@ -840,10 +872,7 @@ fn conclude<R: Files, O: Write, E: Write>(
 
 // Every buffer is made once and lent for each name: to make them anew would cost more than the check.
 fn main(rt: HostRuntime) {
-    let mut to = Outputs {
-        printout: rt.stdout(),
-        messages: rt.stderr(),
-    };
+    let mut to = Outputs::new(rt.stdout(), rt.stderr());
     let wish = asked(&rt);
     let mut entry = [0u8; ENTRY];
     let mut text = [0u8; NAME_BYTES];
@@ -853,36 +882,18 @@ fn main(rt: HostRuntime) {
     let mut state = [0u32; 4096];
     let mut records = [0u32; RECORD_WORDS];
     let mut reasons = [0u64; REASONS];
-    let run = if wish.stream {
-        audit_stream(
-            &rt,
-            &mut to,
-            wish,
-            &mut entry,
-            &mut text,
-            &mut line,
-            &mut file,
-            &mut batch,
-            &mut state,
-            &mut records,
-            &mut reasons,
-        )
-    } else {
-        let count = arguments::count(&rt);
-        audit_arguments(
-            &rt,
-            &mut to,
-            wish,
-            count,
-            &mut entry,
-            &mut text,
-            &mut line,
-            &mut file,
-            &mut batch,
-            &mut state,
-            &mut records,
-            &mut reasons,
-        )
-    };
+    let run = audit(
+        &rt,
+        &mut to,
+        wish,
+        &mut entry,
+        &mut text,
+        &mut line,
+        &mut file,
+        &mut batch,
+        &mut state,
+        &mut records,
+        &mut reasons,
+    );
     conclude(&rt, &mut to, wish, run, &mut line, &reasons);
 }

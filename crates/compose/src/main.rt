@@ -273,10 +273,7 @@ fn compose_argument<R: Env + Files, O: Write, E: Write>(system: &R, to: &mut Out
 }
 
 fn main(rt: HostRuntime) {
-    let mut to = Outputs {
-        printout: rt.stdout(),
-        messages: rt.stderr(),
-    };
+    let mut to = Outputs::new(rt.stdout(), rt.stderr());
     let status = if arguments::count(&rt) < 2 {
         compose_input(&mut to, &mut rt.stdin(), b"standard input")
     } else {

@@ -370,10 +370,7 @@ where
 
 // The buffers are made once, whatever the number of files: clearing them for each would take longer than the check.
 fn main(rt: HostRuntime) {
-    let mut to = Outputs {
-        printout: rt.stdout(),
-        messages: rt.stderr(),
-    };
+    let mut to = Outputs::new(rt.stdout(), rt.stderr());
     let choice = asked(&rt);
     let mut page = [0u8; PAGE_BYTES];
     let mut text = [0u8; NAME_BYTES];

@@ -12,6 +12,7 @@ const NOT_OPEN: i32 = 9;
 
 const NO_TEXT: i32 = 84;
 
+// The longest path that is made here has 42 bytes.
 const PATH_BYTES: usize = 64;
 
 // Opens what descriptor 5 is open on, where the file of names is, to be read from a place of its own.

@@ -1,5 +1,5 @@
 // What the programs share of the world outside: the words that they are started with, files by their names, reading and writing, what is said of a
-// failure, and the descriptors that the launcher opens for them. No error is lost here: what a call makes of one is the program's to say.
+// failure, and the descriptors that the launcher opens for them. What a call could not do comes back as an error, and is the program's to tell.
 #![tactic(auto)]
 
 pub mod arguments;

@@ -62,6 +62,12 @@ pub fn tell_failure<W: Write>(to: &mut W, what: &[u8], failure: io::Error) -> io
 }
 
 impl<O: Write, E: Write> Outputs<O, E> {
+    pub fn new(printout: O, messages: E) -> Outputs<O, E>
+        ensures { result ≡ record { printout = printout; messages = messages } }
+    {
+        Outputs { printout, messages }
+    }
+
     // Writes a text to the printout, and says why if that cannot be done.
     pub fn print(&mut self, text: &[u8]) -> bool
         ensures empty { text.now ≡ [] → IsTrue result }
