@@ -15,8 +15,6 @@ use borrow.Rule.Slice.PartMut.{put_mid, mid_of, post_of, mid_len}
 use Rattle.rules.specs.declared.Answer.{Answer}
 use Rattle.rules.specs.declared.Base.{Base}
 use Rattle.rules.specs.declared.Base.TheVariants.{Set}
-use Rattle.rules.specs.declared.Level.{Level}
-use Rattle.rules.specs.declared.Level.TheVariants.{First, Second}
 use Rattle.rules.specs.declared.Cursor.{Cursor}
 use Rattle.rules.specs.declared.Command.{Command}
 use Rattle.rules.specs.declared.After.{After}
@@ -32,7 +30,6 @@ use Rattle.rules.specs.Commands.{base_row}
 use Rattle.rules.specs.Step.{budget, spent_at, full_at, new_base, base_after, level_number, command_at, step_of}
 use Rattle.rules.specs.Walk.{Run, ended, then, trace, trace_from, cut, start, commands_of, end_of, answer_of}
 use Rattle.rules.specs.Records.{first_word, second_word, words_of, words_for, room_of, written_of}
-use Rattle.rules.proofs.Searching.{never_both}
 use Rattle.rules.proofs.Listing.{words_counted, no_words, with_record, record_added, with_record_long, room_is, two_set, record_put}
 use Rattle.rules.proofs.Running.{follow, commands_follow, end_follows}
 use Rattle.rules.proofs.Stepping.{took}

@@ -2,8 +2,6 @@
 use Rattle.std.specs.Prelude.{ℕ, ◌≡◌, cond, List, length, eqb}
 use Rattle.rules.specs.declared.Base.{Base}
 use Rattle.rules.specs.declared.Answer.{Answer}
-use Rattle.rules.specs.declared.Level.{Level}
-use Rattle.rules.specs.declared.Level.TheVariants.{First, Second}
 use Rattle.rules.specs.declared.Fault.{Fault}
 use Rattle.rules.specs.Windows.{Capture}
 use Rattle.rules.specs.Step.{budget, spent_at}
