@@ -1,7 +1,7 @@
 /*
  * Lungevati from C: the proved checker of captured GPU command buffers, the proved writer of commands, and what turns the listings of earlier versions.
- * Archive libapi.a, made by `rt staticlib api`, has lungevati_check, lungevati_check_no_base, lungevati_read, lungevati_write and lungevati_turn;
- * libapi_table.a, made by `rt staticlib api_table`, has lungevati_check_table and lungevati_check_table_no_base. Both link into one program.
+ * Archive libapi.a, made by `rt lib` in crates/api, has lungevati_check, lungevati_check_no_base, lungevati_read, lungevati_write and lungevati_turn;
+ * libapi_table.a, made by `rt lib` in crates/api_table, has lungevati_check_table and lungevati_check_table_no_base. Both link into one program.
  *
  * The numbers, places and rules are those of docs/RULES.md: document 01 and the requests behind it. A reason is 0 (accepted, read, written, or turned)
  * or one of the refusal numbers there. Each call returns, whatever comes in, allocates nothing and keeps nothing between calls.
