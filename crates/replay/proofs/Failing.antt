@@ -15,7 +15,7 @@ use Rattle.rules.specs.Words.{bit}
 use Rattle.rules.proofs.Searching.{either, and_left, and_right}
 use Rattle.replay.specs.Streamer.{Map, Machine, Effect, goes, ends, fails, Hardware, place_of, store_words, stores, end_batch, start_batch, step}
 use Rattle.replay.specs.Uses.{row, total, dword, address, StoringRow, operands, to_store, stores_at, Whole}
-use Rattle.replay.specs.Uses.{Failure, fetch_outside, unknown_header_lem, store_outside, load_outside, start_nowhere, nothing_kept}
+use Rattle.replay.specs.Uses.{Failure, fetch_outside, unknown_header, store_outside, load_outside, start_nowhere, nothing_kept}
 use Rattle.replay.proofs.Words.{outside_or_has, has_load, outside_stops, stopped_outside}
 use Rattle.replay.proofs.Steps.{Kind, an_end, a_start, sets, loads, storing, other, kind, stores_none, uses_outside, unknown_fails, whole_or}
 use Rattle.replay.proofs.Steps.{step_end, step_start, step_load, step_stores}
@@ -57,7 +57,7 @@ module _ (map : Map) (hardware : Hardware) (done : ℕ) (m : Machine) where
   pub failure_fails : Failure map hardware done m → step map hardware done m ≡ fails
   unfolding end_batch start_batch targets
   failure_fails (fetch_outside k h o) = uses_outside map hardware done m k h o
-  failure_fails (unknown_header_lem e) = unknown_fails map hardware done m e
+  failure_fails (unknown_header e) = unknown_fails map hardware done m e
   failure_fails (store_outside i h o) =
       whole_fails (λ w. step_stores map hardware done m w (storing_row i h) ∙ rw (outside_stops map (to_store hardware done m) m (stores_at m) i h o))
   failure_fails (load_outside e o) = whole_fails (λ w. step_load map hardware done m w e ∙ rw o)
@@ -70,7 +70,7 @@ module _ (map : Map) (hardware : Hardware) (done : ℕ) (m : Machine) where
 
   -- AND NOTHING ELSE DOES
   pub fails_failure : step map hardware done m ≡ fails → Failure map hardware done m
-  fails_failure f = whole_or m (λ w. by w (kind (row m))) unknown_header_lem (fetch_outside (operands m) (omega arith))
+  fails_failure f = whole_or m (λ w. by w (kind (row m))) unknown_header (fetch_outside (operands m) (omega arith))
     where
       going : {e : Effect} → step map hardware done m ≡ goes e → ⊥
       going q = let z : ◌≡◌ {A = ℕ} 0 1 = cc in omega arith

@@ -113,7 +113,7 @@ pub record Whole (m : Machine) : Type 0 where
 pub data Failure (map : Map) (hardware : Hardware) (done : ℕ) (m : Machine) : Type 0 where
   -- its header, or another dword of it that is used, lies outside the batch
   fetch_outside : (k : ℕ) → k ≤ operands m → length m.batch ≤ m.at + k → Failure map hardware done m
-  unknown_header_lem : row m ≡ row_count → Failure map hardware done m
+  unknown_header : row m ≡ row_count → Failure map hardware done m
   -- a word that it stores, or the word that row 6 loads, lies outside all windows
   store_outside : (i : ℕ) → i < length (to_store hardware done m) → place_of map m (stores_at m + 4 * i) ≡ outside → Failure map hardware done m
   load_outside : row m ≡ load_register_row → place_of map m (address m 2) ≡ outside → Failure map hardware done m
