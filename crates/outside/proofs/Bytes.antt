@@ -26,12 +26,14 @@ read_in_place a b (Ok n) front part rest at long fits read =
 read_in_place a b (Err e) front part rest at long fits read = tt
 
 -- the front that was read, and what was read behind it
-pub read_behind : (a b c : Option (List ℕ)) (old new : List ℕ) (d n : ℕ) → take d new ≡ take d old → Consumes a b (take d old) → Consumes b c (take n (drop d new)) → Consumes a c (take (d + n) new)
+pub read_behind : (a b c : Option (List ℕ)) (old new : List ℕ) (d n : ℕ) → take d new ≡ take d old → Consumes a b (take d old)
+    → Consumes b c (take n (drop d new)) → Consumes a c (take (d + n) new)
 read_behind a b c old new d n front before read =
     subst (Consumes a c) (ap (λ l. l ++ take n (drop d new)) (sym front) ∙ sym (take-add d n new)) (consumes_both a b c _ _ before read)
 
 -- the front that was written, and what was written behind it
-pub written_behind : (a b c : Option (List ℕ)) (text : List ℕ) (d n : ℕ) → Appends a b (take d text) → Appends b c (take n (take (length text - d) (drop d text))) → Appends a c (take (d + n) text)
+pub written_behind : (a b c : Option (List ℕ)) (text : List ℕ) (d n : ℕ) → Appends a b (take d text)
+    → Appends b c (take n (take (length text - d) (drop d text))) → Appends a c (take (d + n) text)
 written_behind a b c text d n before wrote =
     subst (Appends a c) (ap (λ l. take d text ++ take n l) (take_rest text d) ∙ sym (take-add d n text)) (appends_both a b c _ _ before wrote)
 
