@@ -1,11 +1,11 @@
 -- The counts and the scratch length of a file are words, so they fit 32 bits.
 -- Assumes nothing.
+use Rattle.std.specs.Prelude.{Ok, Err}
 use Prim.Native.Nat.{ℕ, ◌+◌, ◌^◌, ◌<◌}
 use native.Mathlib.Omega.{arith}
 use mathlib.Core.List.{List}
 use lib.ListN.{get_or}
-use Rattle.rules.specs.declared.Verdict.{Verdict}
-use Rattle.rules.specs.declared.Verdict.TheVariants.{Pass, Fails}
+use Rattle.rules.specs.Refusals.{Verdict}
 use Rattle.rules.specs.Refusals.{first_fault}
 use Rattle.rules.specs.File.{word, trailer_of, file_checks, opened_by, opened_of}
 use Rattle.api.specs.Read.{Small}
@@ -18,5 +18,5 @@ unfolding opened_of trailer_of
 small file b s h = by (first_fault file_checks (record { file = file; batch_room = b; state_room = s }))
   where
     by : (v : Verdict) → Small (opened_by v (trailer_of file))
-    by Pass = record { batch = word_small file _ h; state = word_small file _ h; scratch = word_small file _ h }
-    by (Fails f) = tt
+    by (Ok _) = record { batch = word_small file _ h; state = word_small file _ h; scratch = word_small file _ h }
+    by (Err f) = tt

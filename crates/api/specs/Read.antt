@@ -1,14 +1,12 @@
 -- What the exported reader promises: the reader's answer as numbers, and every word of the two buffers.
-use Rattle.std.specs.Prelude.{ℕ, ◌^◌, ◌<◌, ◌≡◌, List, length, get_or}
+use Rattle.std.specs.Prelude.{ℕ, ◌^◌, ◌<◌, ◌≡◌, List, length, get_or, Result, Ok, Err}
 use Rattle.rules.specs.declared.Contents.{Contents}
-use Rattle.rules.specs.declared.Opened.{Opened}
-use Rattle.rules.specs.declared.Opened.TheVariants.{Holds, NotRead}
 use Rattle.rules.specs.Refusals.{Told}
 use Rattle.rules.specs.File.{opened_of, opened_told, filled_by, batch_dwords, state_dwords}
 use Rattle.api.specs.declared.FileContents.{FileContents}
 
 -- what the reader's answer tells, number, place and values, as the fields of a struct; a value that is not told, on a refusal, is 0
-unfoldable pub flat_of : Opened → FileContents
+unfoldable pub flat_of : Result Contents Reason → FileContents
 flat_of opened =
     let t : Told ℕ = opened_told opened in
     record {
@@ -31,9 +29,9 @@ pub record SmallContents (contents : Contents) : Type 0 where
   pub scratch : contents.scratch.bytes < 2 ^ 32
 
 -- the same of what the reader answers: a refusal has no numbers
-abbrev pub Small : Opened → Type 0
-Small (NotRead reason) = Unit {0}
-Small (Holds contents) = SmallContents contents
+abbrev pub Small : Result Contents Reason → Type 0
+Small (Err reason) = Unit {0}
+Small (Ok contents) = SmallContents contents
 
 -- THE PROMISE of `lungevati_read`: its answer, and every word of the two buffers as it returns
 pub record ReadOut (file batch state : List ℕ) (answer : FileContents) (new_batch new_state : List ℕ) : Type 0 where

@@ -9,8 +9,7 @@ ghost use Rattle.rules.specs.Listings.{Turned};
 ghost use Rattle.walk.specs.Lent.{lent_capture};
 ghost use Rattle.api.specs.Read.{Small, flat_of, ReadOut};
 
-use rules::faults::number;
-use rules::{Answer, BaseChoice, LongAnswer, Opened};
+use rules::{Answer, BaseChoice, Contents, LongAnswer, Reason};
 
 // Checks a capture by the plain engine: `plain::check`, with its promise.
 #[unsafe(no_mangle)]
@@ -78,13 +77,13 @@ pub struct FileContents {
 }
 
 // The answer of `capture::read` as numbers.
-fn flat(opened: Opened) -> FileContents
+fn flat(opened: Result<Contents, Reason>) -> FileContents
     requires { Small opened }
     ensures { result ≡ flat_of opened }
 {
     match opened {
-        Opened::NotRead(reason) => FileContents {
-            reason: number(reason),
+        Err(reason) => FileContents {
+            reason: reason.into(),
             window: 0,
             index: 0,
             count: 0,
@@ -95,7 +94,7 @@ fn flat(opened: Opened) -> FileContents
             state_at: 0,
             scratch_at: 0,
         },
-        Opened::Holds(contents) => FileContents {
+        Ok(contents) => FileContents {
             reason: 0,
             window: 0,
             index: 0,

@@ -1,6 +1,7 @@
 -- The longest run there is: 255 calls of a second-level batch of 255 MI_NOOPs and its end, then the end of the first-level batch,
 -- the 65,536th command. It is accepted.
 -- Assumes nothing.
+use Rattle.std.specs.Prelude.{Ok, Option, None, Some, Err}
 use Prim.Native.Nat.{ℕ, zero, suc, ◌+◌, ◌*◌, ◌≤◌, ◌<◌}
 use native.Mathlib.Omega.{arith}
 use mathlib.Core.Path.{◌≡◌, refl, sym, ap, ◌∙◌, subst}
@@ -9,16 +10,11 @@ use mathlib.Core.List.{List, [], ◌∷◌, ◌++◌}
 use lib.ListN.{length, length-append}
 use lib.Dec.{eqb}
 use borrow.Author.Tests.{eqb-true}
-use Rattle.rules.specs.declared.Base.{Base}
-use Rattle.rules.specs.declared.Base.TheVariants.{Unset, Set}
 use Rattle.rules.specs.declared.Level.{Level}
 use Rattle.rules.specs.declared.Level.TheVariants.{First, Second}
 use Rattle.rules.specs.declared.Cursor.{Cursor}
 use Rattle.rules.specs.declared.Command.{Command}
-use Rattle.rules.specs.declared.After.TheVariants.{Ends, To}
-use Rattle.rules.specs.declared.Outcome.{Outcome}
-use Rattle.rules.specs.declared.Outcome.TheVariants.{Taken, Refused}
-use Rattle.rules.specs.declared.Verdict.TheVariants.{Pass}
+use Rattle.rules.specs.Step.{Outcome}
 use Rattle.rules.specs.Refusals.{answer_with}
 use Rattle.rules.specs.Windows.{Capture, lengths_of, window_fault}
 use Rattle.rules.specs.Step.{budget, cursor, step_of}
@@ -42,9 +38,9 @@ ran zero c s = record { commands = []; cursor = s; leads = stays }
 ran (suc n) c s = next (step_of c s) refl (ran n c)
   where
     next : (o : Outcome) → step_of c s ≡ o → ((t : Cursor) → Ran c t) → Ran c s
-    next (Refused f) e on = record { commands = []; cursor = s; leads = stays }
-    next (Taken k Ends) e on = record { commands = []; cursor = s; leads = stays }
-    next (Taken k (To t)) e on =
+    next (Err f) e on = record { commands = []; cursor = s; leads = stays }
+    next (Ok (k, None)) e on = record { commands = []; cursor = s; leads = stays }
+    next (Ok (k, Some t)) e on =
         let r = on t in record { commands = k ∷ r.commands; cursor = r.cursor; leads = onward e r.leads }
 
 command : ℕ → ℕ → ℕ → ℕ → Command
@@ -56,9 +52,9 @@ inner zero at = command at 1 1 1 ∷ []
 inner (suc n) at = command at 1 0 1 ∷ inner n (at + 1)
 
 -- the second-level batch, computed, whatever position is kept
-called : (back : ℕ) → Leads longest (cursor 766 (Second back) Unset) (inner 255 766) (cursor back First Unset)
+called : (back : ℕ) → Leads longest (cursor 766 (Second back) None) (inner 255 766) (cursor back First None)
 unfolding book longest calls noops command inner ran
-called back = (ran 256 longest (cursor 766 (Second back) Unset)).leads
+called back = (ran 256 longest (cursor 766 (Second back) None)).leads
 
 -- a call: it keeps the position after itself
 call_at : ℕ → Command
@@ -71,18 +67,18 @@ same_level : Level → ℕ → Bool
 same_level First back = false
 same_level (Second b) back = eqb b back
 
-no_base : Base → Bool
-no_base Unset = true
-no_base (Set b) = false
+no_base : Option ℕ → Bool
+no_base None = true
+no_base (Some b) = false
 
 -- the step at a position is the call there
 is_call : Outcome → ℕ → Bool
-is_call (Refused f) at = false
-is_call (Taken k Ends) at = false
-is_call (Taken k (To t)) at = same_command k (call_at at) && (eqb t.at 766 && (same_level t.level (at + 3) && no_base t.base))
+is_call (Err f) at = false
+is_call (Ok (k, None)) at = false
+is_call (Ok (k, Some t)) at = same_command k (call_at at) && (eqb t.at 766 && (same_level t.level (at + 3) && no_base t.base))
 
 -- computed at each of the 255 positions
-calls_tested : each (λ i. is_call (step_of longest (cursor (3 * i) First Unset)) (3 * i)) 255 ≡ true
+calls_tested : each (λ i. is_call (step_of longest (cursor (3 * i) First None)) (3 * i)) 255 ≡ true
 unfolding book each longest calls noops command call_at same_command same_level no_base is_call
 calls_tested = refl
 
@@ -102,40 +98,40 @@ unfolding same_level
 same_level_lem First back e = absurd (never_both e refl)
 same_level_lem (Second b) back e = ap Second (eqb-true _ _ e)
 
-no_base_lem : (b : Base) → no_base b ≡ true → b ≡ Unset
+no_base_lem : (b : Option ℕ) → no_base b ≡ true → b ≡ None
 unfolding no_base
-no_base_lem Unset e = refl
-no_base_lem (Set b) e = absurd (never_both e refl)
+no_base_lem None e = refl
+no_base_lem (Some b) e = absurd (never_both e refl)
 
-is_call_lem : (o : Outcome) (at : ℕ) → is_call o at ≡ true → o ≡ Taken (call_at at) (To (cursor 766 (Second (at + 3)) Unset))
+is_call_lem : (o : Outcome) (at : ℕ) → is_call o at ≡ true → o ≡ Ok (call_at at, Some (cursor 766 (Second (at + 3)) None))
 unfolding is_call
-is_call_lem (Refused f) at e = absurd (never_both e refl)
-is_call_lem (Taken k Ends) at e = absurd (never_both e refl)
-is_call_lem (Taken k (To t)) at e =
+is_call_lem (Err f) at e = absurd (never_both e refl)
+is_call_lem (Ok (k, None)) at e = absurd (never_both e refl)
+is_call_lem (Ok (k, Some t)) at e =
     let p = same_command_lem k (call_at at) (and_left (same_command k (call_at at)) _ e) in
     let b = and_right (same_command k (call_at at)) _ e in
     let q = eqb-true _ _ (and_left (eqb t.at 766) _ b) in
     let m = and_right (eqb t.at 766) _ b in
     let r = same_level_lem t.level (at + 3) (and_left (same_level t.level (at + 3)) _ m) in
     let u = no_base_lem t.base (and_right (same_level t.level (at + 3)) _ m) in
-    λ i. Taken (p i) (To (record { at = q i; level = r i; base = u i }))
+    λ i. Ok (p i, Some (record { at = q i; level = r i; base = u i }))
 
 call_step : (i : ℕ) → i < 255
-    → step_of longest (cursor (3 * i) First Unset) ≡ Taken (call_at (3 * i)) (To (cursor 766 (Second (3 * i + 3)) Unset))
-call_step i h = is_call_lem _ (3 * i) (at_each (λ k. is_call (step_of longest (cursor (3 * k) First Unset)) (3 * k)) 255 calls_tested i h)
+    → step_of longest (cursor (3 * i) First None) ≡ Ok (call_at (3 * i), Some (cursor 766 (Second (3 * i + 3)) None))
+call_step i h = is_call_lem _ (3 * i) (at_each (λ k. is_call (step_of longest (cursor (3 * k) First None)) (3 * k)) 255 calls_tested i h)
 
 -- the commands of n calls; shut, so that nobody writes them out
 pub outer : ℕ → List Command
 outer zero = []
 outer (suc n) = outer n ++ (call_at (3 * n) ∷ inner 255 766)
 
-calls_lead : (n : ℕ) → n ≤ 255 → Leads longest (start Unset) (outer n) (cursor (3 * n) First Unset)
+calls_lead : (n : ℕ) → n ≤ 255 → Leads longest (start None) (outer n) (cursor (3 * n) First None)
 unfolding outer
 calls_lead zero h = stays
 calls_lead (suc n) h =
     let e : 3 * n + 3 ≡ 3 * suc n = omega arith in
     leads_on longest (calls_lead n (omega arith))
-    (subst (λ (at : ℕ). Leads longest (cursor (3 * n) First Unset) (call_at (3 * n) ∷ inner 255 766) (cursor at First Unset)) e
+    (subst (λ (at : ℕ). Leads longest (cursor (3 * n) First None) (call_at (3 * n) ∷ inner 255 766) (cursor at First None)) e
     (onward (call_step n h) (called (3 * n + 3))))
 
 inner_counted : length (inner 255 766) ≡ 256
@@ -155,40 +151,40 @@ outer_counted (suc n) =
 pub last_command : Command
 last_command = command 765 0 1 1
 
-last_step : step_of longest (cursor 765 First Unset) ≡ Taken last_command Ends
+last_step : step_of longest (cursor 765 First None) ≡ Ok (last_command, None)
 unfolding book longest calls noops command last_command
 last_step = refl
 
-sound : window_fault (lengths_of longest) ≡ Pass
+sound : window_fault (lengths_of longest) ≡ Ok tt
 unfolding book longest calls noops
 sound = refl
 
-last_run : trace_from 1 longest (cursor 765 First Unset) ≡ then last_command (ended Pass)
+last_run : trace_from 1 longest (cursor 765 First None) ≡ then last_command (ended (Ok tt))
 unfolding trace
 last_run = rw last_step
 
 all_counted : length (outer 255) ≡ 65535
 all_counted = outer_counted 255
 
-whole : (more : ℕ) → walk Unset longest (budget + more) ≡ follow (outer 255) (then last_command (ended Pass))
+whole : (more : ℕ) → walk None longest (budget + more) ≡ follow (outer 255) (then last_command (ended (Ok tt)))
 unfolding cut
 whole more =
     let few : budget + more ≡ length (outer 255) + suc more = omega (arith, all_counted) in
-    walk_sound Unset longest (budget + more) sound
-    ∙ ap (λ (n : ℕ). cut (budget + more) (trace_from (n + 1) longest (start Unset))) (sym all_counted)
+    walk_sound None longest (budget + more) sound
+    ∙ ap (λ (n : ℕ). cut (budget + more) (trace_from (n + 1) longest (start None))) (sym all_counted)
     ∙ ap (cut (budget + more)) (trace_follows longest 1 (calls_lead 255 (omega arith)) ∙ ap (follow (outer 255)) last_run)
-    ∙ ap (λ (n : ℕ). cut n (follow (outer 255) (then last_command (ended Pass)))) few
-    ∙ cut_follows (outer 255) (suc more) (then last_command (ended Pass))
+    ∙ ap (λ (n : ℕ). cut n (follow (outer 255) (then last_command (ended (Ok tt))))) few
+    ∙ cut_follows (outer 255) (suc more) (then last_command (ended (Ok tt)))
 
 -- ACCEPTED, with 65,536 commands
 pub answers : (more : ℕ)
-    → answer_of (walk Unset longest (budget + more)) ≡ record { reason = 0; window = 0; index = 0; count = 65536 }
+    → answer_of (walk None longest (budget + more)) ≡ record { reason = 0; window = 0; index = 0; count = 65536 }
 unfolding answer_of answer_with commands_of end_of
 answers more =
     ap answer_of (whole more)
     ∙ rw (end_follows (outer 255) _, commands_follow (outer 255) _, length-append (outer 255) (last_command ∷ []), all_counted)
 
 -- in this order: 255 times a call and the second-level batch, and the end last
-pub commands : (more : ℕ) → commands_of (walk Unset longest (budget + more)) ≡ outer 255 ++ (last_command ∷ [])
+pub commands : (more : ℕ) → commands_of (walk None longest (budget + more)) ≡ outer 255 ++ (last_command ∷ [])
 unfolding commands_of
-commands more = ap commands_of (whole more) ∙ commands_follow (outer 255) (then last_command (ended Pass))
+commands more = ap commands_of (whole more) ∙ commands_follow (outer 255) (then last_command (ended (Ok tt)))

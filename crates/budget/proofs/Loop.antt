@@ -1,17 +1,14 @@
 -- A batch that jumps back to its own start (C6, with room for more records than the budget): number 5, after exactly 65,536
 -- commands.
 -- Assumes nothing.
+use Rattle.std.specs.Prelude.{Ok, Err, None, Some}
 use Prim.Native.Nat.{ℕ, zero, suc, ◌+◌}
 use native.Mathlib.Nat.{add-zero}
 use mathlib.Core.Path.{◌≡◌, refl, sym, ap, ◌∙◌}
 use mathlib.Core.List.{List, [], ◌∷◌, ◌++◌, append-nil}
 use lib.ListN.{length, drop, replicate, length-replicate}
-use Rattle.rules.specs.declared.Base.TheVariants.{Unset}
 use Rattle.rules.specs.declared.Reason.TheVariants.{BudgetSpent}
 use Rattle.rules.specs.declared.Command.{Command}
-use Rattle.rules.specs.declared.After.TheVariants.{To}
-use Rattle.rules.specs.declared.Outcome.TheVariants.{Taken}
-use Rattle.rules.specs.declared.Verdict.TheVariants.{Pass, Fails}
 use Rattle.rules.specs.Refusals.{batch_window, fault, number_of, answer_with}
 use Rattle.rules.specs.Windows.{lengths_of, window_fault}
 use Rattle.rules.specs.Step.{budget, step_of}
@@ -27,7 +24,7 @@ abbrev jump : Command
 jump = record { index = 0; level = 0; row = 2; length = 3 }
 
 -- one turn, computed
-turn : step_of looping (start Unset) ≡ Taken jump (To (start Unset))
+turn : step_of looping (start None) ≡ Ok (jump, Some (start None))
 unfolding book
 turn = refl
 
@@ -39,7 +36,7 @@ counted : (n : ℕ) → length (turns n) ≡ n
 unfolding turns
 counted n = length-replicate n jump
 
-leads : (n : ℕ) → Leads looping (start Unset) (turns n) (start Unset)
+leads : (n : ℕ) → Leads looping (start None) (turns n) (start None)
 unfolding turns
 leads zero = stays
 leads (suc n) = onward turn (leads n)
@@ -60,34 +57,34 @@ words_of_budget = ap length (sym (words_of_turns budget)) ∙ words_counted (tur
 
 -- a run with a budget of n and room for more is stopped by the budget
 abbrev spent : Run
-spent = ended (Fails (fault BudgetSpent batch_window 0))
+spent = ended (Err (fault BudgetSpent batch_window 0))
 
-spends : (n more : ℕ) → cut (n + more) (trace_from n looping (start Unset)) ≡ follow (turns n) spent
+spends : (n more : ℕ) → cut (n + more) (trace_from n looping (start None)) ≡ follow (turns n) spent
 unfolding trace cut
 spends n more =
-    ap (λ (m : ℕ). cut (n + more) (trace_from m looping (start Unset))) (sym (add-zero n))
-    ∙ ap (λ (m : ℕ). cut (n + more) (trace_from (m + 0) looping (start Unset))) (sym (counted n))
+    ap (λ (m : ℕ). cut (n + more) (trace_from m looping (start None))) (sym (add-zero n))
+    ∙ ap (λ (m : ℕ). cut (n + more) (trace_from (m + 0) looping (start None))) (sym (counted n))
     ∙ ap (cut (n + more)) (trace_follows looping 0 (leads n))
     ∙ ap (λ (m : ℕ). cut (m + more) (follow (turns n) spent)) (sym (counted n))
     ∙ cut_follows (turns n) more _
 
-sound : window_fault (lengths_of looping) ≡ Pass
+sound : window_fault (lengths_of looping) ≡ Ok tt
 unfolding book
 sound = refl
 
-whole : (more : ℕ) → walk Unset looping (budget + more) ≡ follow (turns budget) spent
-whole more = walk_sound Unset looping (budget + more) sound ∙ spends budget more
+whole : (more : ℕ) → walk None looping (budget + more) ≡ follow (turns budget) spent
+whole more = walk_sound None looping (budget + more) sound ∙ spends budget more
 
 -- NUMBER 5: at the next position, 0, after 65,536 commands
 pub answers : (more : ℕ)
-    → answer_of (walk Unset looping (budget + more)) ≡ record { reason = 5; window = 0; index = 0; count = 65536 }
+    → answer_of (walk None looping (budget + more)) ≡ record { reason = 5; window = 0; index = 0; count = 65536 }
 unfolding answer_of answer_with commands_of end_of number_of
 answers more =
     ap answer_of (whole more)
     ∙ rw (end_follows (turns budget) _, commands_follow (turns budget) _, append-nil, counted budget)
 
 -- and each of the 65,536 records is the jump's; the words behind them stay
-pub written : (more : ℕ) (old : List ℕ) → written_of (walk Unset looping (budget + more)) old ≡ turn_words budget ++ drop 131072 old
+pub written : (more : ℕ) (old : List ℕ) → written_of (walk None looping (budget + more)) old ≡ turn_words budget ++ drop 131072 old
 unfolding written_of commands_of
 written more old =
     ap (λ run. written_of run old) (whole more)

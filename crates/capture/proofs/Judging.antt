@@ -1,15 +1,13 @@
 -- The promise of `judge`: of a file that is not read, and of one whose words are checked.
 -- Assumes nothing.
+use Rattle.std.specs.Prelude.{Option, Result, Ok, Err}
 use Prim.Native.Nat.{ℕ}
 use mathlib.Core.Path.{◌≡◌, sym, ap, ◌∙◌, subst}
 use mathlib.Core.List.{List}
 use lib.ListN.{take, length}
 use Rattle.rules.specs.declared.Answer.{Answer}
-use Rattle.rules.specs.declared.Base.{Base}
 use Rattle.rules.specs.declared.BaseChoice.{BaseChoice}
 use Rattle.rules.specs.declared.Contents.{Contents}
-use Rattle.rules.specs.declared.Opened.{Opened}
-use Rattle.rules.specs.declared.Opened.TheVariants.{Holds, NotRead}
 use Rattle.rules.specs.declared.Reason.{Reason}
 use Rattle.rules.specs.Refusals.{told}
 use Rattle.rules.specs.Windows.{Capture}
@@ -27,12 +25,12 @@ held_capture contents batch state scratch =
 
 module _ {file batch state new_batch new_state : List ℕ} where
   -- what `read` promised of its answer, once the answer is known
-  pub known : {opened opened' : Opened} → FileRead file batch state opened new_batch new_state → opened ≡ opened'
+  pub known : {opened opened' : Result Contents Reason} → FileRead file batch state opened new_batch new_state → opened ≡ opened'
       → FileRead file batch state opened' new_batch new_state
   known f e = rw e at f
 
-  pub not_read : {base : Base} {records : List ℕ} {reason : Reason} {answer : Answer}
-      → FileRead file batch state (NotRead reason) new_batch new_state → answer ≡ (opened_told (NotRead reason)).answer
+  pub not_read : {base : Option ℕ} {records : List ℕ} {reason : Reason} {answer : Answer}
+      → FileRead file batch state (Err reason) new_batch new_state → answer ≡ (opened_told (Err reason)).answer
       → Judged base file batch state records answer new_batch new_state records
   unfolding file_run opened_verdict told answer_of end_of commands_of written_of words_of
   not_read f e = record {
@@ -43,7 +41,7 @@ module _ {file batch state new_batch new_state : List ℕ} where
   }
 
   -- the words that were checked are the capture that the file holds
-  same_capture : {contents : Contents} → FileRead file batch state (Holds contents) new_batch new_state
+  same_capture : {contents : Contents} → FileRead file batch state (Ok contents) new_batch new_state
       → held_capture contents new_batch new_state contents.scratch.bytes ≡ file_capture file
   unfolding file_capture
   same_capture f =
@@ -52,7 +50,7 @@ module _ {file batch state new_batch new_state : List ℕ} where
       rw (p.0, p.1, ← h.counts)
 
   pub read_and_checked : (choice : BaseChoice) {records new_records : List ℕ} {contents : Contents} {answer : Answer} {scratch : ℕ}
-      → FileRead file batch state (Holds contents) new_batch new_state → scratch ≡ (trailer_of file).scratch_bytes
+      → FileRead file batch state (Ok contents) new_batch new_state → scratch ≡ (trailer_of file).scratch_bytes
       → CheckedFrom choice (held_capture contents new_batch new_state scratch) records answer new_records
       → JudgedFrom choice file batch state records answer new_batch new_state new_records
   unfolding file_run opened_verdict

@@ -1,5 +1,6 @@
 -- What a file that is not refused has shown, and the promise of `read` by it.
 -- Assumes nothing.
+use Rattle.std.specs.Prelude.{Ok, Err}
 use Prim.Native.Nat.{ℕ, ◌+◌, ◌*◌, ◌≤◌}
 use native.Mathlib.Nat.{zero-add}
 use native.Mathlib.Omega.{arith}
@@ -11,10 +12,8 @@ use lib.Seq.{take_at}
 use lib.Dec.{ltb, eqb}
 use borrow.Author.Tests.{ltb-false, eqb-true, not-false}
 use Rattle.rules.specs.declared.Contents.{Contents}
-use Rattle.rules.specs.declared.Opened.TheVariants.{Holds, NotRead}
 use Rattle.rules.specs.declared.Reason.{Reason}
-use Rattle.rules.specs.declared.Verdict.{Verdict}
-use Rattle.rules.specs.declared.Verdict.TheVariants.{Pass, Fails}
+use Rattle.rules.specs.Refusals.{Verdict}
 use Rattle.rules.specs.Refusals.{first_fault}
 use Rattle.rules.specs.File.{Trailer, offer, trailer_of, contents_of, file_checks, distance_wrong, buffer_short, opened_by, opened_of}
 use Rattle.rules.specs.File.{dwords_from, batch_from, batch_dwords, state_dwords, filled, filled_by, FileRead}
@@ -24,13 +23,13 @@ use Rattle.rules.proofs.Readings.{opened_told_lem}
 use Rattle.opening.specs.Offers.{alone}
 use Rattle.opening.proofs.Filling.{length_dwords}
 
-same_contents : {c d : Contents} → Holds c ≡ Holds d → c ≡ d
+same_contents : {c d : Contents} → Ok c ≡ Ok d → c ≡ d
 same_contents e = cc
 
-opened_passes : (v : Verdict) (t : Trailer) {contents : Contents} → opened_by v t ≡ Holds contents
-    → (v ≡ Pass) × (contents_of t ≡ contents)
-opened_passes Pass t e = (refl, same_contents e)
-opened_passes (Fails f) t e = let z : ◌≡◌ {A = ℕ} 0 1 = cc in absurd (omega arith)
+opened_passes : (v : Verdict) (t : Trailer) {contents : Contents} → opened_by v t ≡ Ok contents
+    → (v ≡ Ok tt) × (contents_of t ≡ contents)
+opened_passes (Ok _) t e = (refl, same_contents e)
+opened_passes (Err f) t e = let z : ◌≡◌ {A = ℕ} 0 1 = cc in absurd (omega arith)
 
 -- what a file that is read has shown: its size, that both buffers have room, and where its dwords start
 pub record FileHolds (file : List ℕ) (b s : ℕ) (contents : Contents) : Type 0 where
@@ -58,7 +57,7 @@ right_room file b s e =
     let second = ltb s (trailer_of file).state_count in
     (ltb-false _ _ (some_left first second e), ltb-false _ _ (some_right first second e))
 
-pub file_holds : (file : List ℕ) (b s : ℕ) {contents : Contents} → opened_of file b s ≡ Holds contents → FileHolds file b s contents
+pub file_holds : (file : List ℕ) (b s : ℕ) {contents : Contents} → opened_of file b s ≡ Ok contents → FileHolds file b s contents
 unfolding opened_of file_checks
 file_holds file b s e =
     let p = opened_passes (first_fault file_checks (offer file b s)) (trailer_of file) e in
@@ -75,15 +74,15 @@ file_holds file b s e =
 
 -- the promise of `read`: of a file that is refused, and of one whose dwords are filled in
 module _ {file batch state : List ℕ} where
-  pub left_alone : {reason : Reason} → opened_of file (length batch) (length state) ≡ NotRead reason
-      → FileRead file batch state (NotRead reason) batch state
+  pub left_alone : {reason : Reason} → opened_of file (length batch) (length state) ≡ Err reason
+      → FileRead file batch state (Err reason) batch state
   unfolding filled_by
   left_alone e = record { answers = sym e; tells = rw (← e) (opened_told_lem file _ _); batch_filled = rw e; state_filled = rw e }
 
-  pub filled_in : {contents : Contents} {new_batch new_state : List ℕ} → opened_of file (length batch) (length state) ≡ Holds contents
+  pub filled_in : {contents : Contents} {new_batch new_state : List ℕ} → opened_of file (length batch) (length state) ≡ Ok contents
       → new_batch ≡ filled (dwords_from file 0 contents.batch.count) batch
       → new_state ≡ filled (dwords_from file (4 * contents.batch.count) contents.state.count) state
-      → FileRead file batch state (Holds contents) new_batch new_state
+      → FileRead file batch state (Ok contents) new_batch new_state
   unfolding filled_by batch_dwords state_dwords
   filled_in e p q =
       let h = file_holds file (length batch) (length state) e in
@@ -97,7 +96,7 @@ module _ {file batch state : List ℕ} where
       }
 
   -- the words that were filled are the file's dwords, for whoever goes on with them
-  pub parts : {contents : Contents} {new_batch new_state : List ℕ} → FileRead file batch state (Holds contents) new_batch new_state
+  pub parts : {contents : Contents} {new_batch new_state : List ℕ} → FileRead file batch state (Ok contents) new_batch new_state
       → (take contents.batch.count new_batch ≡ batch_dwords file) × (take contents.state.count new_state ≡ state_dwords file)
   unfolding filled_by batch_dwords state_dwords
   parts f =

@@ -1,36 +1,30 @@
 // The capture file: batch dwords, state dwords, then a trailer of 40 bytes. Read, and judged.
 #![tactic(auto)]
 
-ghost use Rattle.std.specs.Prelude.{◌≡◌};
+ghost use Rattle.std.specs.Prelude.{◌≡◌, Err};
 ghost use Rattle.rules.specs.File.{FileRead, opened_told, JudgedFrom};
-ghost use Rattle.rules.specs.declared.Opened.TheVariants.{NotRead};
 
 use opening::{SCRATCH_BYTES, examine, fill, trailer_word};
-use rules::faults::number;
-use rules::{Answer, BaseChoice, Opened, Reason};
+use rules::{Answer, BaseChoice, Contents, Reason};
 
 // Reads a capture file into two lent buffers. A file that is refused leaves both as they were.
-pub fn read(file: &[u8], batch: &mut [u32], state: &mut [u32]) -> Opened
+pub fn read(file: &[u8], batch: &mut [u32], state: &mut [u32]) -> Result<Contents, Reason>
     ensures { FileRead file.now batch.old state.old result batch.new state.new }
 {
-    match examine(file, batch.len(), state.len()) {
-        Opened::NotRead(reason) => Opened::NotRead(reason),
-        Opened::Holds(contents) => {
-            let first = contents.batch.count;
-            let second = contents.state.count;
-            fill(file, 0, first, batch);
-            fill(file, 4 * first, second, state);
-            Opened::Holds(contents)
-        }
-    }
+    let contents = examine(file, batch.len(), state.len())?;
+    let first = contents.batch.count;
+    let second = contents.state.count;
+    fill(file, 0, first, batch);
+    fill(file, 4 * first, second, state);
+    Ok(contents)
 }
 
 // The answer for a file that is not read: its place is 0,0, and no command was checked.
 fn refusal(reason: Reason) -> Answer
-    ensures { result ≡ (opened_told (NotRead reason)).answer }
+    ensures { result ≡ (opened_told (Err reason)).answer }
 {
     Answer {
-        reason: number(reason),
+        reason: reason.into(),
         window: 0,
         index: 0,
         count: 0,
@@ -48,8 +42,8 @@ pub fn judge(
     ensures { JudgedFrom choice file.now batch.old state.old records.old result batch.new state.new records.new }
 {
     match read(file, batch, state) {
-        Opened::NotRead(reason) => refusal(reason),
-        Opened::Holds(contents) => {
+        Err(reason) => refusal(reason),
+        Ok(contents) => {
             let first = contents.batch.count;
             let second = contents.state.count;
             let scratch = trailer_word(file, SCRATCH_BYTES);

@@ -1,5 +1,6 @@
 -- WHAT 13 TELLS: where a range does not fit, the detail is the command's row, the address, the bytes and where they should lie, as the rules give them.
 -- Assumes nothing.
+use Rattle.std.specs.Prelude.{Ok, Err, Option, Some, None}
 use Prim.Native.Nat.{ℕ, ◌+◌, ◌-◌, ◌≤◌, ◌<◌}
 use native.Mathlib.Omega.{arith}
 use mathlib.Core.Path.{◌≡◌, refl, sym, ap, ◌∙◌}
@@ -11,10 +12,7 @@ use Rattle.rules.specs.declared.Access.{Access}
 use Rattle.rules.specs.declared.Access.TheVariants.{Unused, Reaches, NoRange}
 use Rattle.rules.specs.declared.Cursor.{Cursor}
 use Rattle.rules.specs.declared.Fault.{Fault}
-use Rattle.rules.specs.declared.Found.{Found}
-use Rattle.rules.specs.declared.Found.TheVariants.{At, Nothing}
 use Rattle.rules.specs.declared.Reason.TheVariants.{RangeOutside}
-use Rattle.rules.specs.declared.Verdict.TheVariants.{Pass, Fails}
 use Rattle.rules.specs.declared.Within.{Within}
 use Rattle.rules.specs.Words.{first_of}
 use Rattle.rules.specs.Refusals.{batch_window, refuse_found}
@@ -57,17 +55,17 @@ module _ (c : Capture) (s : Cursor) where
     told = sym (reaches c.batch s.at (f.index - s.at) whole own) ∙ ap (reach_of row (address_at dwords (f.index - s.at))) e;
   }
 
-  by_found : {f : Fault} (found : Found) → first_of (range_wrong (windows_of c) row dwords) (length_at c.batch s.at) ≡ found
-      → refuse_found RangeOutside batch_window s.at found ≡ Fails f → s.at + length_at c.batch s.at ≤ length c.batch → Outside f
+  by_found : {f : Fault} (found : Option ℕ) → first_of (range_wrong (windows_of c) row dwords) (length_at c.batch s.at) ≡ found
+      → refuse_found RangeOutside batch_window s.at found ≡ Err f → s.at + length_at c.batch s.at ≤ length c.batch → Outside f
   unfolding range_wrong
-  by_found Nothing e q whole = absurd (fails_not_pass (sym q))
-  by_found {f} (At k) e q whole =
+  by_found None e q whole = absurd (fails_not_pass (sym q))
+  by_found {f} (Some k) e q whole =
       let p = first_found _ 0 (length_at c.batch s.at) e in
       let i : f.index ≡ s.at + k = ap (λ (g : Fault). g.index) (sym (same_fault q)) in
       let j : f.index - s.at ≡ k = omega arith in
       by_access (access_at row dwords (f.index - s.at)) refl (rw j p.found) whole (omega (arith, p.below))
 
   -- where 9 passes and 13 fails
-  pub outside_told : {f : Fault} → past_the_window (here c s) ≡ Pass → range_outside (here c s) ≡ Fails f → Outside f
+  pub outside_told : {f : Fault} → past_the_window (here c s) ≡ Ok tt → range_outside (here c s) ≡ Err f → Outside f
   unfolding past_the_window range_outside
   outside_told p e = by_found _ refl e (ltb-false _ _ (refuse_passes _ _ p))

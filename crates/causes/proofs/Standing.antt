@@ -1,5 +1,6 @@
 -- THE POSITION IS THE WALK'S OWN: wherever commands lead the walk from its start, the position after them is where it stands.
 -- Assumes nothing.
+use Rattle.std.specs.Prelude.{Option, Some, Ok}
 use Prim.Native.Nat.{ℕ, ◌+◌, ◌-◌, ◌/◌, ◌<◌}
 use native.Mathlib.Omega.{arith}
 use mathlib.Core.Path.{◌≡◌, refl, sym, ap, ◌∙◌}
@@ -8,14 +9,10 @@ use mathlib.Core.List.{List}
 use lib.ListN.{length, get_or, take, drop}
 use lib.Seq.{get_or-take, get_or-drop, take_at}
 use borrow.Author.Tests.{eqb-true, eq-eqb, ne_eqb}
-use Rattle.rules.specs.declared.Base.{Base}
 use Rattle.rules.specs.declared.Level.{Level}
 use Rattle.rules.specs.declared.Level.TheVariants.{First, Second}
 use Rattle.rules.specs.declared.Cursor.{Cursor}
 use Rattle.rules.specs.declared.Command.{Command}
-use Rattle.rules.specs.declared.After.{After}
-use Rattle.rules.specs.declared.After.TheVariants.{To}
-use Rattle.rules.specs.declared.Outcome.TheVariants.{Taken}
 use Rattle.rules.specs.Words.{field}
 use Rattle.rules.specs.Windows.{Capture, windows_of}
 use Rattle.rules.specs.Commands.{rows, the_row, length_of, end_row, start_row, length_right}
@@ -95,13 +92,13 @@ module _ (c : Capture) where
     pub position : leads s kept ≡ t.at
     pub keeping : Keeps t.level (keeps s kept)
 
-  stood : (s t : Cursor) {k : Command} (kept : ℕ) → step_of c s ≡ Taken k (To t) → Keeps s.level kept → Stands s t kept
-  stood s t kept e known = by (To t) refl (taken_way c s e)
+  stood : (s t : Cursor) {k : Command} (kept : ℕ) → step_of c s ≡ Ok (k, Some t) → Keeps s.level kept → Stands s t kept
+  stood s t kept e known = by (Some t) refl (taken_way c s e)
     where
       p : Passed c s
       p = passed c s (took c s e).passes
 
-      by : (a : After) → a ≡ To t → Way c s a → Stands s t kept
+      by : (a : Option Cursor) → a ≡ Some t → Way c s a → Stands s t kept
       by a q (ends r l) = absurd (ends_nowhere q)
       by a q (returns {back = back} r l) =
           rw (← same_cursor q) (record { position = end_leads s kept r ∙ known back l; keeping = λ b m. absurd (first_keeps_none m) })
@@ -127,12 +124,12 @@ module _ (c : Capture) where
       rw ((took c s e).command, led.position) (all_stand (keeps s kept) led.keeping l)
 
   -- from the start on
-  pub position_of_the_walk : (base : Base) {t : Cursor} {ks : List Command} → Leads c (start base) ks t
+  pub position_of_the_walk : (base : Option ℕ) {t : Cursor} {ks : List Command} → Leads c (start base) ks t
       → stands_after c.batch c.batch_at 0 0 ks ≡ t.at
   position_of_the_walk base l = all_stand 0 (λ back m. absurd (first_keeps_none m)) l
 
   -- the words of a run's records name its commands
-  words_name : (base : Base) (room : ℕ) (old : List ℕ)
+  words_name : (base : Option ℕ) (room : ℕ) (old : List ℕ)
       → commands_in (take (words_for (length (commands_of (walk base c room)))) (written_of (walk base c room) old)) ≡ commands_of (walk base c room)
   unfolding written_of
   words_name base room old =
@@ -140,7 +137,7 @@ module _ (c : Capture) where
       ap commands_in (take_at (words_of commands) _ (words_for (length commands)) (words_counted commands)) ∙ walk_read_back base c room
 
   -- THE REFUSED COMMAND: after a check that refuses, the position that its records tell is that of the cursor where the fault was met
-  pub position_of_the_fault : {base : Base} {old new : List ℕ} {answer : Answer} {f : Fault} → Checked base c old answer new
+  pub position_of_the_fault : {base : Option ℕ} {old new : List ℕ} {answer : Answer} {f : Fault} → Checked base c old answer new
       → (w : WalkFault base c (room_of (length old)) (commands_of (walk base c (room_of (length old)))) f)
       → position_after c.batch c.batch_at new answer.count ≡ w.cursor.at
   position_of_the_fault {base} {old} k w =

@@ -1,5 +1,6 @@
 -- A buffer filled record by record from its first word on: what the loop of `listing::fill` has written when it has come to the old word i.
 -- Assumes nothing.
+use Rattle.std.specs.Prelude.{Ok}
 use Prim.Native.Nat.{ℕ, ◌+◌, ◌*◌, ◌≤◌, ◌<◌}
 use native.Mathlib.Numerals.{add-one}
 use native.Mathlib.Omega.{arith}
@@ -8,7 +9,6 @@ use mathlib.Core.List.{List, [], ◌∷◌, ◌++◌}
 use lib.ListN.{length, get_or, take, drop, set, length-set}
 use lib.Seq.{length-take-le, take-suc, take_all}
 use Rattle.rules.specs.declared.Command.{Command}
-use Rattle.rules.specs.declared.Verdict.TheVariants.{Pass}
 use Rattle.rules.specs.Records.{first_word, second_word, words_of, words_for}
 use Rattle.rules.specs.Listings.{old_command_of, old_commands_in, turned_by}
 use Rattle.rules.proofs.Recording.{old_counted}
@@ -54,7 +54,7 @@ module _ {old before : List ℕ} where
             ∙ ap (λ (ks : List Command). words_of ks ++ drop (words_for (i + 1)) before) (next_command old i h);
       }
 
-  pub fill_ends : {new : List ℕ} {i : ℕ} → Filling old before new i → length old ≤ i → new ≡ turned_by Pass old before
+  pub fill_ends : {new : List ℕ} {i : ℕ} → Filling old before new i → length old ≤ i → new ≡ turned_by (Ok tt) old before
   fill_ends {new} {i} f h =
       let all : i ≡ length old = omega (arith, f.within) in
       f.held

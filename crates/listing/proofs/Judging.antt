@@ -1,5 +1,6 @@
 -- What `listing::turn` has asked when it answers: the refusals in their order, and how the promise follows from the one that was found, or from none.
 -- Assumes nothing.
+use Rattle.std.specs.Prelude.{Ok, Err, Option, Some, None}
 use Prim.Native.Nat.{ℕ, ◌/◌, ◌≤◌, ◌<◌}
 use native.Mathlib.Nat.{zero-add}
 use native.Mathlib.Omega.{arith}
@@ -7,12 +8,9 @@ use mathlib.Core.Path.{◌≡◌, sym, ap, ◌∙◌}
 use mathlib.Core.List.{List, [], ◌∷◌}
 use lib.ListN.{length, get_or}
 use borrow.Author.Tests.{lt-ltb, le-ltb}
-use Rattle.rules.specs.declared.Found.{Found}
-use Rattle.rules.specs.declared.Found.TheVariants.{At, Nothing}
 use Rattle.rules.specs.declared.LongAnswer.{LongAnswer}
 use Rattle.rules.specs.declared.Reason.TheVariants.{BitNotAllowed, RecordsFull}
-use Rattle.rules.specs.declared.Verdict.{Verdict}
-use Rattle.rules.specs.declared.Verdict.TheVariants.{Pass, Fails}
+use Rattle.rules.specs.Refusals.{Verdict}
 use Rattle.rules.specs.Words.{first_of}
 use Rattle.rules.specs.Refusals.{batch_window, fault}
 use Rattle.rules.specs.Records.{words_for}
@@ -21,21 +19,21 @@ use Rattle.rules.proofs.Trying.{fails_first, no_fault}
 use Rattle.rules.proofs.Listing.{words_for_is}
 
 -- the first stray word of a listing
-abbrev pub first_stray : List ℕ → Found
+abbrev pub first_stray : List ℕ → Option ℕ
 first_stray old = first_of (λ i. stray_bits (get_or old i 0)) (length old)
 
 module _ (old : List ℕ) (room : ℕ) where
   -- 10
-  pub stray_fails : {i : ℕ} → first_stray old ≡ At i → turn_verdict (turning old room) ≡ Fails (fault BitNotAllowed batch_window i)
+  pub stray_fails : {i : ℕ} → first_stray old ≡ Some i → turn_verdict (turning old room) ≡ Err (fault BitNotAllowed batch_window i)
   unfolding turn_checks word_stray
   stray_fails e = sym (fails_first [] word_stray (listing_full ∷ []) (turning old room) tt (rw (e, zero-add)))
 
-  none_stray : first_stray old ≡ Nothing → word_stray (turning old room) ≡ Pass
+  none_stray : first_stray old ≡ None → word_stray (turning old room) ≡ Ok tt
   unfolding word_stray
   none_stray e = rw e
 
   -- 18: fewer halves than words are fewer words than the double
-  pub full_fails : first_stray old ≡ Nothing → room / 2 < length old → turn_verdict (turning old room) ≡ Fails (fault RecordsFull batch_window 0)
+  pub full_fails : first_stray old ≡ None → room / 2 < length old → turn_verdict (turning old room) ≡ Err (fault RecordsFull batch_window 0)
   unfolding turn_checks listing_full
   full_fails e h =
       sym (fails_first (word_stray ∷ []) listing_full [] (turning old room) (none_stray e, tt)
@@ -44,7 +42,7 @@ module _ (old : List ℕ) (room : ℕ) where
   pub has_room : length old ≤ room / 2 → words_for (length old) ≤ room
   has_room h = omega (arith, words_for_is (length old))
 
-  pub none_fails : first_stray old ≡ Nothing → length old ≤ room / 2 → turn_verdict (turning old room) ≡ Pass
+  pub none_fails : first_stray old ≡ None → length old ≤ room / 2 → turn_verdict (turning old room) ≡ Ok tt
   unfolding turn_checks listing_full
   none_fails e h = no_fault (turning old room) turn_checks (none_stray e, (rw (le-ltb room (words_for (length old)) (has_room h)), tt))
 

@@ -1,15 +1,13 @@
 // Turning an old listing, of records of one word, into the new form of two words (request 7): the words of the one in, those of the other in a lent buffer out.
 #![tactic(auto)]
 
-ghost use Rattle.std.specs.Prelude.{◌≡◌, ◌≤◌, length, get_or};
-ghost use Rattle.rules.specs.declared.Verdict.TheVariants.{Pass, Fails};
+ghost use Rattle.std.specs.Prelude.{◌≡◌, ◌≤◌, length, get_or, Ok, Err};
 ghost use Rattle.rules.specs.Words.{first_of};
 ghost use Rattle.rules.specs.Refusals.{batch_window, fault};
 ghost use Rattle.rules.specs.Records.{first_word, second_word, words_for};
 ghost use Rattle.rules.specs.Listings.{old_command_of, stray_bits, long_answer, turned_by, Turned};
 
-use rules::faults::number;
-use rules::{Found, LongAnswer, Reason};
+use rules::{LongAnswer, Reason};
 
 // Whether an old word has one of the bits 15:13, which no record has.
 fn stray(word: u32) -> bool
@@ -19,17 +17,17 @@ fn stray(word: u32) -> bool
 }
 
 // The first old word that has one.
-fn first_stray(old: &[u32]) -> Found
+fn first_stray(old: &[u32]) -> Option<usize>
     ensures { result ≡ first_of (λ i. stray_bits (get_or old.now i 0)) (length old.now) }
 {
     let mut i = 0;
     while i < old.len() {
         if stray(old[i]) {
-            return Found::At(i);
+            return Some(i);
         }
         i += 1;
     }
-    Found::Nothing
+    None
 }
 
 // The first word of the new record: the index, and the level in bit 16, which was bit 12.
@@ -49,7 +47,7 @@ fn second_word(word: u32) -> u32
 // Writes the new records into a buffer that has room for them.
 fn fill(old: &[u32], new: &mut [u32])
     requires { words_for (length old.now) ≤ length new.old }
-    ensures { new.new ≡ turned_by Pass old.now new.old }
+    ensures { new.new ≡ turned_by (Ok tt) old.now new.old }
 {
     let mut i = 0;
     while i < old.len() {
@@ -64,10 +62,10 @@ fn fill(old: &[u32], new: &mut [u32])
 
 // The answer to a refusal.
 fn refused(reason: Reason, index: usize) -> LongAnswer
-    ensures { result ≡ long_answer (Fails (fault reason batch_window index)) 0 }
+    ensures { result ≡ long_answer (Err (fault reason batch_window index)) 0 }
 {
     LongAnswer {
-        reason: number(reason),
+        reason: reason.into(),
         window: 0,
         index: index as u64,
         count: 0,
@@ -79,7 +77,7 @@ pub fn turn(old: &[u32], new: &mut [u32]) -> LongAnswer
     ensures { Turned old.now new.old result new.new }
 {
     // 10
-    if let Found::At(i) = first_stray(old) {
+    if let Some(i) = first_stray(old) {
         return refused(Reason::BitNotAllowed, i);
     }
     // 18: two words for each old one, by halves, since the double may not fit

@@ -1,9 +1,9 @@
 -- The checks 7 to 13 of the command at a position, as one answer: its row and its length, or its first fault.
-use Rattle.std.specs.Prelude.{ℕ, ◌+◌, not, List, length, leb, ltb}
+use Rattle.std.specs.Prelude.{ℕ, ◌+◌, not, List, length, leb, ltb, Result, Ok, Err}
 use Rattle.rules.specs.declared.Windows.{Windows}
+use Rattle.rules.specs.declared.Fault.{Fault}
 use Rattle.rules.specs.declared.Level.{Level}
-use Rattle.rules.specs.declared.Verdict.{Verdict}
-use Rattle.rules.specs.declared.Verdict.TheVariants.{Pass, Fails}
+use Rattle.rules.specs.Refusals.{Verdict}
 use Rattle.rules.specs.declared.Reason.TheVariants.{UnknownHeader, WrongLength, PastTheWindow, BitNotAllowed, NestedStart, ValueBroken, RangeOutside}
 use Rattle.rules.specs.Words.{first_of}
 use Rattle.rules.specs.Refusals.{batch_window, fault, refuse_if, refuse_found}
@@ -12,13 +12,15 @@ use Rattle.rules.specs.Masks.{bit_wrong}
 use Rattle.rules.specs.Values.{value_wrong}
 use Rattle.rules.specs.Addresses.{range_wrong}
 use Rattle.rules.specs.Step.{header_at, row_at, length_at, dwords_at, nested}
-use Rattle.looks.specs.declared.Look.{Look}
-use Rattle.looks.specs.declared.Look.TheVariants.{Whole, Wrong}
+
+-- of a command that passes its row and its length, or else the first fault
+abbrev pub Look : Type 0
+Look = Result (ℕ × ℕ) Fault
 
 -- one verdict, and the next only where it passes
 abbrev pub or_else : Verdict → Verdict → Verdict
-or_else Pass later = later
-or_else (Fails f) later = Fails f
+or_else (Ok _) later = later
+or_else (Err f) later = Err f
 
 -- 10 to 13, of a command's dwords
 unfoldable pub content_of : Windows → ℕ → List ℕ → ℕ → Level → Verdict
@@ -38,8 +40,8 @@ own_of w batch at level =
 
 -- what passes is told by its row and its length
 abbrev pub look_by : Verdict → ℕ → ℕ → Look
-look_by Pass r n = Whole r n
-look_by (Fails f) r n = Wrong f
+look_by (Ok _) r n = Ok (r, n)
+look_by (Err f) r n = Err f
 
 unfoldable pub look_of : Windows → List ℕ → ℕ → Level → Look
 look_of w batch at level = look_by (own_of w batch at level) (row_at batch at) (length_at batch at)

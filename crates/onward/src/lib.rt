@@ -7,7 +7,7 @@ ghost use Rattle.rules.specs.Step.{after_end, level_after_start, base_after, lev
 ghost use Rattle.onward.specs.Onward.{move_from};
 
 use rules::names::{BASE_ROW, END_ROW, START_ROW};
-use rules::{After, Base, Cursor, Level};
+use rules::{Cursor, Level};
 use words::dwords::{address_of, dword};
 
 pub fn level_number(level: Level) -> usize
@@ -19,12 +19,12 @@ pub fn level_number(level: Level) -> usize
     }
 }
 
-fn after_end(level: Level, base: Base) -> After
+fn after_end(level: Level, base: Option<u64>) -> Option<Cursor>
     ensures { result ≡ after_end level base }
 {
     match level {
-        Level::First => After::Ends,
-        Level::Second(back) => After::To(Cursor {
+        Level::First => None,
+        Level::Second(back) => Some(Cursor {
             at: back,
             level: Level::First,
             base,
@@ -63,7 +63,7 @@ fn level_after_start(header: u32, next: usize, level: Level) -> Level
 }
 
 // The dynamic base after a command: only row 9 with bit 0 of its dword 6 sets it.
-fn base_after(row: usize, command: &[u32], base: Base) -> Base
+fn base_after(row: usize, command: &[u32], base: Option<u64>) -> Option<u64>
     ensures { result ≡ base_after row command.now base }
 {
     if row != BASE_ROW {
@@ -75,18 +75,18 @@ fn base_after(row: usize, command: &[u32], base: Base) -> Base
     }
     let pages = (low / 0x1000 % 0x10_0000) as u64;
     let high = (dword(command, 7) % 0x1_0000) as u64;
-    Base::Set(0x1000 * pages + 0x1_0000_0000 * high)
+    Some(0x1000 * pages + 0x1_0000_0000 * high)
 }
 
 // Where the command leads from the cursor; `next` is the position after it. The rows above the start's that change nothing are asked first: that leaves
 // a no-op a way of its own through the walk's loop, on which the compiler knows its row and its length.
-pub fn move_of(batch_at: u64, s: Cursor, row: usize, command: &[u32], next: usize) -> After
+pub fn move_of(batch_at: u64, s: Cursor, row: usize, command: &[u32], next: usize) -> Option<Cursor>
     ensures { result ≡ move_from batch_at s row command.now next }
 {
     let level = s.level;
     let base = s.base;
     if START_ROW < row && row != BASE_ROW {
-        return After::To(Cursor {
+        return Some(Cursor {
             at: next,
             level,
             base,
@@ -96,13 +96,13 @@ pub fn move_of(batch_at: u64, s: Cursor, row: usize, command: &[u32], next: usiz
         return after_end(level, base);
     }
     if row == START_ROW {
-        return After::To(Cursor {
+        return Some(Cursor {
             at: target(batch_at, command),
             level: level_after_start(dword(command, 0), next, level),
             base,
         });
     }
-    After::To(Cursor {
+    Some(Cursor {
         at: next,
         level,
         base: base_after(row, command, base),

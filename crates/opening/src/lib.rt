@@ -7,7 +7,7 @@ ghost use Rattle.rules.specs.File.{offer, distance_wrong, file_counts_wrong, buf
 ghost use Rattle.rules.specs.File.{dwords_from, filled};
 ghost use Rattle.opening.specs.Offers.{alone};
 
-use rules::{Contents, Filled, Opened, Reason, Window};
+use rules::{Contents, Filled, Reason, Window};
 
 const TRAILER_BYTES: usize = 40;
 
@@ -121,25 +121,25 @@ fn buffer_short(file: &[u8], batch_room: usize, state_room: usize) -> bool
 }
 
 // The file's refusals in order, or what it holds. Nothing is written here.
-pub fn examine(file: &[u8], batch_room: usize, state_room: usize) -> Opened
+pub fn examine(file: &[u8], batch_room: usize, state_room: usize) -> Result<Contents, Reason>
     ensures { result ≡ opened_of file.now batch_room state_room }
 {
     if file.len() < TRAILER_BYTES {
-        return Opened::NotRead(Reason::FileSize);
+        return Err(Reason::FileSize);
     }
     if LARGEST_FILE < file.len() {
-        return Opened::NotRead(Reason::FileSize);
+        return Err(Reason::FileSize);
     }
     if distance_wrong(file) {
-        return Opened::NotRead(Reason::FileDistance);
+        return Err(Reason::FileDistance);
     }
     if counts_wrong(file) {
-        return Opened::NotRead(Reason::WrongCounts);
+        return Err(Reason::WrongCounts);
     }
     if buffer_short(file, batch_room, state_room) {
-        return Opened::NotRead(Reason::BufferShort);
+        return Err(Reason::BufferShort);
     }
-    Opened::Holds(trailer(file))
+    Ok(trailer(file))
 }
 
 // n dwords of the file, from a byte on, into the first n words of a buffer.

@@ -1,5 +1,6 @@
 -- Laws of the decision by header: from what a row's function answers to what is seen of the command at a position, and to the look at it.
 -- Assumes nothing.
+use Rattle.std.specs.Prelude.{Err, Ok}
 use Prim.Native.Nat.{ℕ, ◌+◌, ◌-◌, ◌*◌, ◌/◌, ◌%◌, ◌^◌, ◌≤◌, ◌<◌}
 use native.Mathlib.Omega.{arith}
 use mathlib.Core.Path.{◌≡◌, refl, sym, ap, ◌∙◌}
@@ -13,8 +14,7 @@ use Rattle.rules.specs.declared.Windows.{Windows}
 use Rattle.rules.specs.declared.Level.{Level}
 use Rattle.rules.specs.declared.Level.TheVariants.{First, Second}
 use Rattle.rules.specs.declared.Fault.{Fault}
-use Rattle.rules.specs.declared.Verdict.{Verdict}
-use Rattle.rules.specs.declared.Verdict.TheVariants.{Fails}
+use Rattle.rules.specs.Refusals.{Verdict}
 use Rattle.rules.specs.declared.Reason.TheVariants.{UnknownHeader, WrongLength}
 use Rattle.rules.specs.Words.{field}
 use Rattle.rules.specs.Refusals.{batch_window, number_of, fault, refuse_if}
@@ -23,7 +23,6 @@ use Rattle.rules.specs.Uses.{no_use, access_of}
 use Rattle.rules.specs.Values.{no_rule, rule_of}
 use Rattle.rules.specs.Step.{header_at, row_at, nested}
 use Rattle.rules.proofs.Trying.{refuse_passes}
-use Rattle.looks.specs.declared.Look.TheVariants.{Whole, Wrong}
 use Rattle.looks.specs.Looks.{content_of, own_of, look_of}
 use Rattle.looks.proofs.LookLaws.{both_pass}
 use Rattle.plain_shared.specs.Plain.{coded, wrong_of, bare_of, no_windows}
@@ -154,9 +153,9 @@ module _ (w : Windows) (batch : List ℕ) (at : ℕ) (level : Level) (h : at < l
     where
       by : (b : Bool) → leb row_count (row_at batch at) ≡ b → Judged w batch at level s
       by true e = record {
-        verdict = Fails (fault UnknownHeader batch_window 0);
+        verdict = Err (fault UnknownHeader batch_window 0);
         number = p.wrong ∙ rw e;
-        there = rw e (ap (λ (i : ℕ). Fails (fault UnknownHeader batch_window i)) (omega arith));
+        there = rw e (ap (λ (i : ℕ). Err (fault UnknownHeader batch_window i)) (omega arith));
         near = fault_near (near_at UnknownHeader 0 (lit≤ tt, lit< tt) (lit< tt));
       }
       by false e = record {
@@ -166,7 +165,7 @@ module _ (w : Windows) (batch : List ℕ) (at : ℕ) (level : Level) (h : at < l
         near = verdict_near w (row_at batch at) (drop at batch) level (leb-false _ _ e);
       }
 
-  pub look_whole : s.wrong ≡ 0 → Whole s.row s.length ≡ look_of w batch at level
+  pub look_whole : s.wrong ≡ 0 → Ok (s.row, s.length) ≡ look_of w batch at level
   unfolding look_of placed
   look_whole z =
       let passes = coded_passes judged.verdict (sym judged.number ∙ z) in
@@ -179,10 +178,10 @@ module _ (w : Windows) (batch : List ℕ) (at : ℕ) (level : Level) (h : at < l
   answer_bounded n = rw judged.number ((fault_told n).least, (fault_told n).most)
 
   pub look_wrong : (s.wrong ≡ 0 → ⊥) → (g : Fault) → (number_of g.reason ≡ s.wrong / 256) × (g.window ≡ batch_window) × (g.index ≡ at + s.wrong % 256)
-      → Wrong g ≡ look_of w batch at level
+      → Err g ≡ look_of w batch at level
   unfolding look_of
   look_wrong n g e =
-      let same : Fails g ≡ placed at judged.verdict =
+      let same : Err g ≡ placed at judged.verdict =
       told_placed judged.verdict (fault_told n) at g (e.0 ∙ ap (λ (i : ℕ). i / 256) judged.number) e.1
       (e.2 ∙ ap (λ (i : ℕ). at + i % 256) judged.number) in
       rw (judged.there, ← same)

@@ -9,7 +9,6 @@ ghost use Rattle.looks.specs.Looks.{look_of};
 ghost use Rattle.plain_shared.specs.Plain.{wrong_of};
 ghost use Rattle.plain_look.specs.Seeing.{OfType3, Sees};
 
-use looks::Look;
 use plain_3d::type_3;
 use plain_mi::type_0;
 use plain_shared::heads::length_by_field;
@@ -21,7 +20,7 @@ use rules::names::{
     PIPE_ROW, PRIMITIVE_ROW, ROWS, SELECT_ROW, SET_REGISTERS_ROW, START_ROW, STORE_REGISTER_ROW,
     STORE_ROW, TOPOLOGY_ROW, VERTEX_BUFFERS_ROW, VERTEX_ELEMENTS_ROW, VIEWPORT_ROW,
 };
-use rules::{Level, Windows};
+use rules::{Fault, Level, Windows};
 
 // What is seen of a command: its row, its length, and what is wrong with it (`numbers`). ROWS is no row.
 #[derive(Clone, Copy)]
@@ -131,13 +130,13 @@ fn seen_of_type_3(batch: &[u32], at: usize, w: Windows) -> Seen
 }
 
 // The checks 7 to 13 of the command at the position.
-pub fn looked(batch: &[u32], w: Windows, at: usize, level: Level) -> Look
+pub fn looked(batch: &[u32], w: Windows, at: usize, level: Level) -> Result<(usize, usize), Fault>
     requires { at < length batch.now }
     ensures { result ≡ look_of w batch.now at level }
 {
     let seen = seen_by_header(batch, at, w, level);
     if seen.wrong == NOTHING {
-        return Look::Whole(seen.row, seen.length);
+        return Ok((seen.row, seen.length));
     }
-    Look::Wrong(fault_of(seen.wrong, at))
+    Err(fault_of(seen.wrong, at))
 }

@@ -1,5 +1,6 @@
 -- The number of a refusal lies between 7 * 256 and 14 * 256, and tells its reason and its place: a command has at most 256 dwords.
 -- Assumes nothing.
+use Rattle.std.specs.Prelude.{Ok, Err, Option, Some, None}
 use Prim.Native.Nat.{ℕ, zero, suc, ◌+◌, ◌*◌, ◌/◌, ◌%◌, ◌≤◌, ◌<◌}
 use native.Mathlib.Nat.{div-add-mod', add-zero, mul-le-mul_right}
 use native.Mathlib.Omega.{arith}
@@ -10,13 +11,10 @@ use lib.Dec.{eqb, leb, ltb, lit≤, lit<}
 use lib.ListN.{length, get_or, take}
 use borrow.Author.Tests.{eqb-true, leb-true}
 use Rattle.rules.specs.declared.Fault.{Fault}
-use Rattle.rules.specs.declared.Found.{Found}
-use Rattle.rules.specs.declared.Found.TheVariants.{At, Nothing}
 use Rattle.rules.specs.declared.Level.{Level}
 use Rattle.rules.specs.declared.Reason.{Reason}
 use Rattle.rules.specs.declared.Reason.TheVariants.{WrongLength, PastTheWindow, BitNotAllowed, NestedStart, ValueBroken, RangeOutside}
-use Rattle.rules.specs.declared.Verdict.{Verdict}
-use Rattle.rules.specs.declared.Verdict.TheVariants.{Pass, Fails}
+use Rattle.rules.specs.Refusals.{Verdict}
 use Rattle.rules.specs.declared.Windows.{Windows}
 use Rattle.rules.specs.Words.{first_from, field, bit}
 use Rattle.rules.specs.Refusals.{batch_window, number_of, fault, refuse_if, refuse_found}
@@ -79,7 +77,7 @@ pub record Near (f : Fault) : Type 0 where
 
 -- a verdict that refuses so, if it does
 abbrev pub AllNear : Verdict → Type 0
-AllNear v = (f : Fault) → v ≡ Fails f → Near f
+AllNear v = (f : Fault) → v ≡ Err f → Near f
 
 -- a reason of 7 to 13
 abbrev Numbered : Reason → Type 0
@@ -88,15 +86,15 @@ Numbered reason = (7 ≤ number_of reason) × (number_of reason < 14)
 pub near_at : (reason : Reason) (i : ℕ) → Numbered reason → i < 256 → Near (fault reason batch_window i)
 near_at reason i n h = record { least = n.0; most = n.1; window = refl; place = h }
 
-nothing_near : AllNear Pass
+nothing_near : AllNear (Ok tt)
 nothing_near f e = absurd (fails_not_pass (sym e))
 
-pub fault_near : {g : Fault} → Near g → AllNear (Fails g)
+pub fault_near : {g : Fault} → Near g → AllNear (Err g)
 fault_near n f e = subst (λ (h : Fault). Near h) (same_fault e) n
 
 else_near : (u v : Verdict) → AllNear u → AllNear v → AllNear (or_else u v)
-else_near Pass v a b = b
-else_near (Fails f) v a b = a
+else_near (Ok _) v a b = b
+else_near (Err f) v a b = a
 
 test_near : (reason : Reason) (b : Bool) → Numbered reason → AllNear (refuse_if b (fault reason batch_window 0))
 test_near reason true n = fault_near (near_at reason 0 n (lit< tt))
@@ -106,9 +104,9 @@ search_near : (reason : Reason) (bad : ℕ → Bool) (n : ℕ) → Numbered reas
     → AllNear (refuse_found reason batch_window 0 (first_from bad 0 n))
 search_near reason bad n numbered h = by (first_from bad 0 n) (λ i e. (first_found bad 0 n e).below)
   where
-    by : (found : Found) → ((i : ℕ) → found ≡ At i → i < 0 + n) → AllNear (refuse_found reason batch_window 0 found)
-    by Nothing l = nothing_near
-    by (At i) l = fault_near (near_at reason (0 + i) numbered (omega (arith, l i refl)))
+    by : (found : Option ℕ) → ((i : ℕ) → found ≡ Some i → i < 0 + n) → AllNear (refuse_found reason batch_window 0 found)
+    by None l = nothing_near
+    by (Some i) l = fault_near (near_at reason (0 + i) numbered (omega (arith, l i refl)))
 
 content_near : (w : Windows) (r : ℕ) (d : List ℕ) (level : Level) → length d ≤ 256 → AllNear (content_of w r d 0 level)
 unfolding content_of number_of
@@ -152,7 +150,7 @@ verdict_near w r rest level h = by_length (length_right r (get_or rest 0 0)) ref
 -- what the number of such a refusal tells
 pub record Told (v : Verdict) : Type 0 where
   pub first : Fault
-  pub fails : v ≡ Fails first
+  pub fails : v ≡ Err first
   pub window : first.window ≡ batch_window
   pub reason : number_of first.reason ≡ coded v / 256
   pub place : first.index ≡ coded v % 256
@@ -161,8 +159,8 @@ pub record Told (v : Verdict) : Type 0 where
 
 pub told : (v : Verdict) → AllNear v → (coded v ≡ 0 → ⊥) → Told v
 unfolding coded
-told Pass a n = absurd (n refl)
-told (Fails f) a n =
+told (Ok _) a n = absurd (n refl)
+told (Err f) a n =
     let near = a f refl in
     let place = near.place in
     record {
@@ -176,6 +174,6 @@ told (Fails f) a n =
     }
 
 -- a command of which nothing is wrong passes
-pub wrong_passes : (w : Windows) (r : ℕ) (rest : List ℕ) (level : Level) → wrong_of w r rest level ≡ 0 → verdict_of w r rest level ≡ Pass
+pub wrong_passes : (w : Windows) (r : ℕ) (rest : List ℕ) (level : Level) → wrong_of w r rest level ≡ 0 → verdict_of w r rest level ≡ Ok tt
 unfolding wrong_of
 wrong_passes w r rest level e = coded_passes _ e

@@ -1,5 +1,6 @@
 -- A verdict of a command at a position: that of its dwords by themselves, with the position added to the place.
 -- Assumes nothing.
+use Rattle.std.specs.Prelude.{Ok, Err, Option, Some, None}
 use Prim.Native.Nat.{ℕ, ◌+◌, ◌-◌, ◌/◌, ◌%◌, ◌≤◌, ◌<◌}
 use native.Mathlib.Omega.{arith}
 use mathlib.Core.Path.{◌≡◌, refl, sym, ap, ◌∙◌}
@@ -11,10 +12,7 @@ use lib.Dec.{ltb}
 use borrow.Author.Tests.{lt-leb, lt-ltb, le-ltb, ltb-true, ltb-false}
 use Rattle.rules.specs.declared.Windows.{Windows}
 use Rattle.rules.specs.declared.Level.{Level}
-use Rattle.rules.specs.declared.Found.{Found}
-use Rattle.rules.specs.declared.Found.TheVariants.{At, Nothing}
-use Rattle.rules.specs.declared.Verdict.{Verdict}
-use Rattle.rules.specs.declared.Verdict.TheVariants.{Pass, Fails}
+use Rattle.rules.specs.Refusals.{Verdict}
 use Rattle.rules.specs.declared.Reason.{Reason}
 use Rattle.rules.specs.declared.Fault.{Fault}
 use Rattle.rules.specs.declared.Reason.TheVariants.{WrongCounts, AddressUnaligned, EndsTooHigh, WindowsShare, BudgetSpent, RanOff}
@@ -34,25 +32,25 @@ use Rattle.plain_shared.proofs.Bounds.{verdict_of, Told}
 
 -- a verdict of a command, told from the start of the window
 unfoldable pub placed : ℕ → Verdict → Verdict
-placed at Pass = Pass
-placed at (Fails f) = Fails (fault f.reason f.window (at + f.index))
+placed at (Ok _) = Ok tt
+placed at (Err f) = Err (fault f.reason f.window (at + f.index))
 
 module _ (at : ℕ) where
   pub else_placed : {u x : Verdict} (v y : Verdict) → u ≡ placed at v → x ≡ placed at y → or_else u x ≡ placed at (or_else v y)
   unfolding placed
-  else_placed {x = x} Pass y e f = ap (λ (v : Verdict). or_else v x) e ∙ f
-  else_placed {x = x} (Fails g) y e f = ap (λ (v : Verdict). or_else v x) e
+  else_placed {x = x} (Ok _) y e f = ap (λ (v : Verdict). or_else v x) e ∙ f
+  else_placed {x = x} (Err g) y e f = ap (λ (v : Verdict). or_else v x) e
 
-  found_placed : (reason : Reason) (found : Found)
+  found_placed : (reason : Reason) (found : Option ℕ)
       → refuse_found reason batch_window at found ≡ placed at (refuse_found reason batch_window 0 found)
   unfolding placed
-  found_placed reason Nothing = refl
-  found_placed reason (At k) = ap (λ (i : ℕ). Fails (fault reason batch_window i)) (omega arith)
+  found_placed reason None = refl
+  found_placed reason (Some k) = ap (λ (i : ℕ). Err (fault reason batch_window i)) (omega arith)
 
   pub test_placed : (b : Bool) (reason : Reason)
       → refuse_if b (fault reason batch_window at) ≡ placed at (refuse_if b (fault reason batch_window 0))
   unfolding placed
-  test_placed true reason = ap (λ (i : ℕ). Fails (fault reason batch_window i)) (omega arith)
+  test_placed true reason = ap (λ (i : ℕ). Err (fault reason batch_window i)) (omega arith)
   test_placed false reason = refl
 
   pub content_placed : (w : Windows) (r : ℕ) (d : List ℕ) (level : Level)
@@ -128,13 +126,13 @@ same_reason r s e = sym (by_number r) ∙ ap reason_at e ∙ by_number s
 -- a fault with the reason and the place that a number tells is that of the verdict, told from the start of the window
 pub told_placed : (v : Verdict) → Told v → (at : ℕ) (g : Fault) → number_of g.reason ≡ coded v / 256 → g.window ≡ batch_window
     → g.index ≡ at + coded v % 256
-    → Fails g ≡ placed at v
+    → Err g ≡ placed at v
 unfolding placed
 told_placed v t at g reason window index =
     let r = same_reason g.reason t.first.reason (reason ∙ sym t.reason) in
     let w = window ∙ sym t.window in
     let i : g.index ≡ at + t.first.index = index ∙ ap (λ (n : ℕ). at + n) (sym t.place) in
-    ap (λ (x : Reason). Fails (fault x g.window g.index)) r
-    ∙ ap (λ (x : ℕ). Fails (fault t.first.reason x g.index)) w
-    ∙ ap (λ (x : ℕ). Fails (fault t.first.reason t.first.window x)) i
+    ap (λ (x : Reason). Err (fault x g.window g.index)) r
+    ∙ ap (λ (x : ℕ). Err (fault t.first.reason x g.index)) w
+    ∙ ap (λ (x : ℕ). Err (fault t.first.reason t.first.window x)) i
     ∙ ap (placed at) (sym t.fails)

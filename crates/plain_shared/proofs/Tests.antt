@@ -1,5 +1,6 @@
 -- An answer of the plain engine as tests, one behind another, each with the number that it gives: the form that early returns have.
 -- Assumes nothing.
+use Rattle.std.specs.Prelude.{Ok, Some}
 use Prim.Native.Nat.{ℕ, zero, suc, ◌+◌, ◌*◌, ◌≤◌, ◌<◌}
 use native.Mathlib.Omega.{arith}
 use mathlib.Core.Path.{◌≡◌, refl, sym, ap, ◌∙◌}
@@ -9,11 +10,9 @@ use lib.ListN.{length, get_or}
 use Rattle.rules.specs.declared.Windows.{Windows}
 use Rattle.rules.specs.declared.Level.{Level}
 use Rattle.rules.specs.declared.Fault.{Fault}
-use Rattle.rules.specs.declared.Verdict.{Verdict}
-use Rattle.rules.specs.declared.Verdict.TheVariants.{Pass}
+use Rattle.rules.specs.Refusals.{Verdict}
 use Rattle.rules.specs.declared.Reason.{Reason}
 use Rattle.rules.specs.declared.Reason.TheVariants.{BitNotAllowed, NestedStart, ValueBroken, RangeOutside}
-use Rattle.rules.specs.declared.Found.TheVariants.{At}
 use Rattle.rules.specs.Words.{first_from}
 use Rattle.rules.specs.Refusals.{batch_window, number_of, fault, refuse_if, refuse_found}
 use Rattle.rules.specs.Commands.{length_of, length_right}
@@ -45,7 +44,7 @@ searched reason bad k zero v = refl
 searched reason bad k (suc n) v = by (bad k) (searched reason bad (k + 1) n v)
   where
     by : (b : Bool) {later : ℕ} → coded (or_else (refuse_found reason batch_window 0 (first_from bad (k + 1) n)) v) ≡ later
-        → coded (or_else (refuse_found reason batch_window 0 (cond b (At k) (first_from bad (k + 1) n))) v)
+        → coded (or_else (refuse_found reason batch_window 0 (cond b (Some k) (first_from bad (k + 1) n))) v)
         ≡ cond b (256 * number_of reason + k) later
     by true e = ap (λ (i : ℕ). 256 * number_of reason + i) (omega arith)
     by false e = e
@@ -54,7 +53,7 @@ searched reason bad k (suc n) v = by (bad k) (searched reason bad (k + 1) n v)
 pub searched_last : (reason : Reason) (bad : ℕ → Bool) (k n : ℕ)
     → coded (refuse_found reason batch_window 0 (first_from bad k n)) ≡ tested (number_of reason) bad k n 0
 unfolding coded
-searched_last reason bad k n = alone (refuse_found reason batch_window 0 (first_from bad k n)) ∙ searched reason bad k n Pass
+searched_last reason bad k n = alone (refuse_found reason batch_window 0 (first_from bad k n)) ∙ searched reason bad k n (Ok tt)
 
 -- tests in a list, each with its answer: that of the first that holds, and else the answer behind them
 abbrev pub Test : Type 0

@@ -1,10 +1,9 @@
 -- What the plain engine's functions answer: a fault as one number.
-use Rattle.std.specs.Prelude.{ℕ, zero, suc, ◌+◌, ◌-◌, ◌*◌, ◌%◌, ◌≤◌, ◌<◌, ◌≡◌, Bool, true, false, cond, not, ◌&&◌, ◌||◌, List, length, get_or, take, ltb, eqb}
+use Rattle.std.specs.Prelude.{ℕ, zero, suc, ◌+◌, ◌-◌, ◌*◌, ◌%◌, ◌≤◌, ◌<◌, ◌≡◌, Bool, true, false, cond, not, ◌&&◌, ◌||◌, List, length, get_or, take, ltb, eqb, Ok, Err}
 use Rattle.rules.specs.declared.Windows.{Windows}
 use Rattle.rules.specs.declared.Level.{Level}
 use Rattle.rules.specs.declared.Level.TheVariants.{First}
-use Rattle.rules.specs.declared.Verdict.{Verdict}
-use Rattle.rules.specs.declared.Verdict.TheVariants.{Pass, Fails}
+use Rattle.rules.specs.Refusals.{Verdict}
 use Rattle.rules.specs.declared.Reason.{Reason}
 use Rattle.rules.specs.declared.Reason.TheVariants.{WrongLength, PastTheWindow, BitNotAllowed, ValueBroken, RangeOutside}
 use Rattle.rules.specs.Words.{first_from}
@@ -18,8 +17,8 @@ use Rattle.looks.specs.Looks.{or_else, content_of}
 
 -- a verdict whose place counts from the command's header, as one number: the refusal's number * 256 + the dword's number, and 0 for none
 unfoldable pub coded : Verdict → ℕ
-coded Pass = 0
-coded (Fails f) = 256 * number_of f.reason + f.index
+coded (Ok _) = 0
+coded (Err f) = 256 * number_of f.reason + f.index
 
 -- the same, of the first of the n dwords from k on that the test finds
 abbrev pub first_coded : Reason → (ℕ → Bool) → ℕ → ℕ → ℕ

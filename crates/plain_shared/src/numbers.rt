@@ -3,7 +3,6 @@
 ghost use Rattle.std.specs.Prelude.{◌≡◌, ◌+◌, ◌*◌, ◌/◌, ◌%◌, ◌^◌, ◌≤◌, ◌<◌};
 ghost use Rattle.rules.specs.Refusals.{batch_window, number_of};
 
-use rules::faults::in_batch;
 use rules::{Fault, Reason};
 
 pub const NOTHING: usize = 0;
@@ -58,5 +57,5 @@ pub fn fault_of(answer: usize, at: usize) -> Fault
     requires { (7 * 256 ≤ answer) × (answer < 14 * 256) × (at + 256 < 2 ^ 63) }
     ensures { (number_of result.reason ≡ answer / 256) × (result.window ≡ batch_window) × (result.index ≡ at + answer % 256) }
 {
-    in_batch(reason_of(answer), at + answer % 256)
+    Fault::in_batch(reason_of(answer), at + answer % 256)
 }

@@ -1,14 +1,14 @@
 -- The bad versions of document 01 cannot meet demand 2, by C2, C3, C7 and C9; an invented count meets neither demand 2 nor demand 3.
 -- Assumes nothing.
+use Rattle.std.specs.Prelude.{None}
 use Prim.Native.Nat.{ℕ}
 use native.Mathlib.Omega.{arith}
 use mathlib.Core.Path.{◌≡◌, refl, sym, ap, ◌∙◌}
 use mathlib.Core.List.{List, [], ◌∷◌}
 use mathlib.Core.Option.{Option, some}
 use lib.ListN.{length, get_or, take}
+use Rattle.rules.specs.Step.{Base}
 use Rattle.rules.specs.declared.Answer.{Answer}
-use Rattle.rules.specs.declared.Base.{Base}
-use Rattle.rules.specs.declared.Base.TheVariants.{Unset}
 use Rattle.rules.specs.Windows.{Capture}
 use Rattle.rules.specs.Refusals.{AllPass}
 use Rattle.rules.specs.Step.{here, checks}
@@ -39,33 +39,33 @@ abbrev c9 : Capture
 c9 = case_capture (0x00000000 ∷ 0x10000002 ∷ 0x00301000 ∷ 0 ∷ 0 ∷ 0x05000000 ∷ [])
 
 -- what demand 2 makes of C3, C7 and C9
-c3_refused : {r : Answer} {new : List ℕ} → Demand2 Unset c3 ample r new → r.reason ≡ 6
+c3_refused : {r : Answer} {new : List ℕ} → Demand2 None c3 ample r new → r.reason ≡ 6
 unfolding book
 c3_refused d = ap (λ (a : Answer). a.reason) (answer_decided d)
 
-c7_count : {r : Answer} {new : List ℕ} → Demand2 Unset c7 ample r new → r.count ≡ 3
+c7_count : {r : Answer} {new : List ℕ} → Demand2 None c7 ample r new → r.count ≡ 3
 unfolding book
 c7_count d = ap (λ (a : Answer). a.count) (answer_decided d)
 
-c7_records : {r : Answer} {new : List ℕ} → Demand2 Unset c7 ample r new → take (words_for r.count) new ≡ 0x00000000 ∷ 0x02030000 ∷ 0x00010004 ∷ 0x01010000 ∷ 0x00000003 ∷ 0x01010000 ∷ []
+c7_records : {r : Answer} {new : List ℕ} → Demand2 None c7 ample r new → take (words_for r.count) new ≡ 0x00000000 ∷ 0x02030000 ∷ 0x00010004 ∷ 0x01010000 ∷ 0x00000003 ∷ 0x01010000 ∷ []
 unfolding book
 c7_records d = records_decided d
 
-c9_refused : {r : Answer} {new : List ℕ} → Demand2 Unset c9 ample r new → r.reason ≡ 13
+c9_refused : {r : Answer} {new : List ℕ} → Demand2 None c9 ample r new → r.reason ≡ 13
 unfolding book
 c9_refused d = ap (λ (a : Answer). a.reason) (answer_decided d)
 
 -- by C2, where no check faults
-pub refuses_all : (v : Version) → RefusesAll v → Meets Unset v → ⊥
+pub refuses_all : (v : Version) → RefusesAll v → Meets None v → ⊥
 unfolding book
-refuses_all v bad m = bad c2 ample ((m c2 ample).accepted.1 (accepted_passes Unset c2 (room_of (length ample)) refl))
+refuses_all v bad m = bad c2 ample ((m c2 ample).accepted.1 (accepted_passes None c2 (room_of (length ample)) refl))
 
 -- by C3
-pub accepts_all : (v : Version) → AcceptsAll v → Meets Unset v → ⊥
+pub accepts_all : (v : Version) → AcceptsAll v → Meets None v → ⊥
 accepts_all v bad m = let e : ◌≡◌ {A = ℕ} 0 6 = sym (bad c3 ample) ∙ c3_refused (m c3 ample) in omega arith
 
 -- by C7
-pub writes_none : (v : Version) → WritesNone v → Meets Unset v → ⊥
+pub writes_none : (v : Version) → WritesNone v → Meets None v → ⊥
 unfolding book
 writes_none v bad m =
     let d = m c7 ample in
@@ -75,12 +75,12 @@ writes_none v bad m =
     omega arith
 
 -- by C9, whose first command has no fault
-pub checks_the_first : (v : Version) → ChecksTheFirst Unset v → Meets Unset v → ⊥
+pub checks_the_first : (v : Version) → ChecksTheFirst None v → Meets None v → ⊥
 unfolding book
 checks_the_first v bad m =
     let e : ◌≡◌ {A = ℕ} 0 13 = sym (bad c9 ample (refl, (refl, (refl, (refl, tt)))) first) ∙ c9_refused (m c9 ample) in omega arith
   where
-    first : AllPass (checks 0 (room_of (length ample))) (here c9 (start Unset))
+    first : AllPass (checks 0 (room_of (length ample))) (here c9 (start None))
     first = (refl, (refl, (refl, (refl, (refl, (refl, (refl, (refl, (refl, (refl, (refl, (refl, (refl, (refl, tt))))))))))))))
 
 -- any count but the right one, for whatever capture and whatever starting base

@@ -1,17 +1,16 @@
 -- The three demands for either starting base, from the promise of `check_from`, and that 14 is given only under "none"; the same of a file.
 -- Assumes nothing.
+use Rattle.std.specs.Prelude.{Ok, Err, None}
 use Prim.Native.Nat.{ℕ}
 use native.Mathlib.Omega.{arith}
 use mathlib.Core.Path.{◌≡◌, refl, sym, ap, ◌∙◌}
 use mathlib.Core.List.{List}
 use lib.ListN.{length}
 use Rattle.rules.specs.declared.Answer.{Answer}
-use Rattle.rules.specs.declared.Base.TheVariants.{Unset}
 use Rattle.rules.specs.declared.BaseChoice.{BaseChoice}
 use Rattle.rules.specs.declared.BaseChoice.TheVariants.{StateWindow, NoBase}
 use Rattle.rules.specs.declared.Fault.{Fault}
-use Rattle.rules.specs.declared.Verdict.{Verdict}
-use Rattle.rules.specs.declared.Verdict.TheVariants.{Pass, Fails}
+use Rattle.rules.specs.Refusals.{Verdict}
 use Rattle.rules.specs.Refusals.{number_of, answer_with, first_fault}
 use Rattle.rules.specs.Windows.{Capture}
 use Rattle.rules.specs.Walk.{Run, starting_base, walk, commands_of, end_of, answer_of}
@@ -29,10 +28,10 @@ use Rattle.promises.proofs.Files.{checked, file_demands}
 
 -- an answer that says 14 is that of a fault, whose number it is
 fault_told : (v : Verdict) (n : ℕ) (choice : BaseChoice) → (answer_with v n).reason ≡ 14
-    → ((f : Fault) → v ≡ Fails f → number_of f.reason ≡ 14 → choice ≡ NoBase) → choice ≡ NoBase
+    → ((f : Fault) → v ≡ Err f → number_of f.reason ≡ 14 → choice ≡ NoBase) → choice ≡ NoBase
 unfolding answer_with
-fault_told Pass n choice e h = absurd (let z : ◌≡◌ {A = ℕ} 0 14 = e in omega arith)
-fault_told (Fails f) n choice e h = h f refl e
+fault_told (Ok _) n choice e h = absurd (let z : ◌≡◌ {A = ℕ} 0 14 = e in omega arith)
+fault_told (Err f) n choice e h = h f refl e
 
 module _ (choice : BaseChoice) {c : Capture} {old new : List ℕ} {r : Answer} (p : CheckedFrom choice c old r new) where
   -- "14 IS GIVEN ONLY UNDER "NONE""
@@ -59,7 +58,7 @@ module _ {c : Capture} {old new none_new : List ℕ} {r none : Answer} (p : Chec
   unfolding answer_of answer_with
   same_by_both other =
       let room = room_of (length old) in
-      let run = walk Unset c room in
+      let run = walk None c room in
       let told : Fourteen (end_of run) → ⊥ = λ x.
       other (ap (λ (a : Answer). a.reason) q.answers ∙ ap (λ (v : Verdict). (answer_with v (length (commands_of run))).reason) x.1 ∙ x.2) in
       let same = same_unless_fourteen c.state_at c room told in
@@ -86,7 +85,7 @@ module _ (choice : BaseChoice) {file batch state records new_batch new_state new
   file_fourteen e = by said refl
     where
       by : (v : Verdict) → said ≡ v → choice ≡ NoBase
-      by Pass q = fourteen choice (checked p (all_pass _ file_checks q)) e
-      by (Fails f) q =
+      by (Ok _) q = fourteen choice (checked p (all_pass _ file_checks q)) e
+      by (Err f) q =
           let unread = (file_demands p).refused f (first_fault_lem _ file_checks f q) in
           absurd (file_other _ f q (sym (ap (λ (a : Answer). a.reason) unread.answer) ∙ e))

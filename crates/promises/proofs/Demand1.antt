@@ -1,5 +1,6 @@
 -- Demand 1 from the promise of `walk::check`, the only hypothesis; and that the promise admits one answer only.
 -- Assumes nothing.
+use Rattle.std.specs.Prelude.{Ok, Err, Option}
 use Prim.Native.Nat.{ℕ, zero, suc, ◌≤◌}
 use native.Mathlib.Omega.{arith}
 use mathlib.Core.Path.{◌≡◌, refl, sym, ap, ◌∙◌}
@@ -7,10 +8,8 @@ use mathlib.Core.List.{List}
 use lib.ListN.{length, take, drop, length-append, length-drop}
 use lib.Seq.{take-append_seam, drop-append_seam}
 use Rattle.rules.specs.declared.Answer.{Answer}
-use Rattle.rules.specs.declared.Base.{Base}
 use Rattle.rules.specs.declared.Fault.{Fault}
-use Rattle.rules.specs.declared.Verdict.{Verdict}
-use Rattle.rules.specs.declared.Verdict.TheVariants.{Pass, Fails}
+use Rattle.rules.specs.Refusals.{Verdict}
 use Rattle.rules.specs.Refusals.{FirstFault, number_of, answer_with}
 use Rattle.rules.specs.Windows.{Capture, lengths_of, window_checks, window_fault}
 use Rattle.rules.specs.Walk.{Run, ended, then, cut, walk, commands_of, end_of, answer_of}
@@ -29,19 +28,19 @@ cut_short room (ended v) = omega arith
 cut_short zero (then k run) = omega arith
 cut_short (suc room) (then k run) = let h = cut_short room run in omega arith
 
-told_short : (base : Base) (c : Capture) (room : ℕ) → length (commands_of (walk base c room)) ≤ room
+told_short : (base : Option ℕ) (c : Capture) (room : ℕ) → length (commands_of (walk base c room)) ≤ room
 unfolding commands_of
 told_short base c room = by (window_fault (lengths_of c)) refl
   where
     by : (v : Verdict) → window_fault (lengths_of c) ≡ v → length (commands_of (walk base c room)) ≤ room
-    by Pass e = rw (walk_sound base c room e) (cut_short room _)
-    by (Fails f) e = rw (walk_unsound base c room e) (omega arith)
+    by (Ok _) e = rw (walk_sound base c room e) (cut_short room _)
+    by (Err f) e = rw (walk_unsound base c room e) (omega arith)
 
 -- the walk of a capture, with the room that a record buffer has
-abbrev pub walk_of : Base → Capture → List ℕ → Run
+abbrev pub walk_of : Option ℕ → Capture → List ℕ → Run
 walk_of base c old = walk base c (room_of (length old))
 
-module _ {base : Base} {c : Capture} {old new : List ℕ} {r : Answer} (p : Checked base c old r new) where
+module _ {base : Option ℕ} {c : Capture} {old new : List ℕ} {r : Answer} (p : Checked base c old r new) where
   pub count_told : r.count ≡ length (commands_of (walk_of base c old))
   count_told = ap (λ (a : Answer). a.count) p.answers ∙ count_is (walk_of base c old)
 
@@ -77,5 +76,5 @@ module _ {base : Base} {c : Capture} {old new : List ℕ} {r : Answer} (p : Chec
       }
 
 -- ONE ANSWER ONLY: the promise admits one answer, and one content of the record buffer
-pub one_answer : {base : Base} {c : Capture} {old new new' : List ℕ} {r r' : Answer} → Checked base c old r new → Checked base c old r' new' → (r ≡ r') × (new ≡ new')
+pub one_answer : {base : Option ℕ} {c : Capture} {old new new' : List ℕ} {r r' : Answer} → Checked base c old r new → Checked base c old r' new' → (r ≡ r') × (new ≡ new')
 one_answer p q = one_check p q

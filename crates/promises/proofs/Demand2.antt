@@ -1,6 +1,7 @@
 -- Demand 2 from the promise of `walk::check`, the only hypothesis; and back: demand 2 leaves no other answer and no other records than the walk's, and
 -- demands 1 and 2 together are the promise.
 -- Assumes nothing.
+use Rattle.std.specs.Prelude.{Ok, Err, Option}
 use Prim.Native.Nat.{ℕ}
 use mathlib.Core.Path.{◌≡◌, refl, sym, ap, ◌∙◌}
 use mathlib.Core.List.{List, []}
@@ -9,10 +10,8 @@ use lib.ListN.{length, take, take-append-drop}
 use lib.Dec.{eqb}
 use borrow.Author.Tests.{eqb-true, eqb-false}
 use Rattle.rules.specs.declared.Answer.{Answer}
-use Rattle.rules.specs.declared.Base.{Base}
 use Rattle.rules.specs.declared.Fault.{Fault}
-use Rattle.rules.specs.declared.Verdict.{Verdict}
-use Rattle.rules.specs.declared.Verdict.TheVariants.{Pass, Fails}
+use Rattle.rules.specs.Refusals.{Verdict}
 use Rattle.rules.specs.Refusals.{FirstFault, answer_with}
 use Rattle.rules.specs.Windows.{Capture, lengths_of, window_checks, window_fault}
 use Rattle.rules.specs.Walk.{commands_of, end_of, answer_of, Complete, WalkFault}
@@ -27,16 +26,16 @@ use Rattle.promises.specs.Demand1.{Demand1}
 use Rattle.promises.specs.Demand2.{Refusal, Demand2}
 use Rattle.promises.proofs.Demand1.{walk_of, records_stand}
 
-module _ {base : Base} {c : Capture} {old : List ℕ} where
+module _ {base : Option ℕ} {c : Capture} {old : List ℕ} where
   module _ {new : List ℕ} {r : Answer} (p : Checked base c old r new) where
     answer_is : r ≡ answer_with (end_of (walk_of base c old)) (length (commands_of (walk_of base c old)))
     unfolding answer_of
     answer_is = p.answers
 
-    pub passes : r.reason ≡ 0 → end_of (walk_of base c old) ≡ Pass
+    pub passes : r.reason ≡ 0 → end_of (walk_of base c old) ≡ Ok tt
     passes e = zero_is_pass (end_of (walk_of base c old)) (length (commands_of (walk_of base c old))) (ap (λ (a : Answer). a.reason) (sym answer_is) ∙ e)
 
-    accepted : end_of (walk_of base c old) ≡ Pass → r.reason ≡ 0
+    accepted : end_of (walk_of base c old) ≡ Ok tt → r.reason ≡ 0
     accepted e = ap (λ (a : Answer). a.reason) answer_is ∙ pass_is_zero (end_of (walk_of base c old)) (length (commands_of (walk_of base c old))) e
 
     completes : r.reason ≡ 0 → (r ≡ record { reason = 0; window = 0; index = 0; count = length (commands_of (walk_of base c old)) }) × Complete base c (commands_of (walk_of base c old))
@@ -47,13 +46,13 @@ module _ {base : Base} {c : Capture} {old : List ℕ} where
     unfolding answer_with window_fault
     refuses n = by (end_of (walk_of base c old)) refl
       where
-        windows : {f : Fault} → (window_fault (lengths_of c) ≡ Fails f) × (commands_of (walk_of base c old) ≡ [])
+        windows : {f : Fault} → (window_fault (lengths_of c) ≡ Err f) × (commands_of (walk_of base c old) ≡ [])
             → FirstFault window_checks (lengths_of c) f × (commands_of (walk_of base c old) ≡ [])
         windows q = (first_fault_lem (lengths_of c) window_checks _ q.0, q.1)
 
         by : (v : Verdict) → end_of (walk_of base c old) ≡ v → Refusal base c (room_of (length old)) r (commands_of (walk_of base c old))
-        by Pass e = absurd (n (accepted e))
-        by (Fails f) e = record {
+        by (Ok _) e = absurd (n (accepted e))
+        by (Err f) e = record {
           fault = f;
           answer = answer_is ∙ ap (λ (v : Verdict). answer_with v (length (commands_of (walk_of base c old)))) e;
           first = ⊎_elim (λ q. inl (windows q)) (λ q. inr q) (refusal base c (room_of (length old)) e);
@@ -79,12 +78,12 @@ module _ {base : Base} {c : Capture} {old : List ℕ} where
         let k = complete_told base c (room_of (length old)) w q.1 in
         (q.0 ∙ rw (w, k), k)
 
-    windows_refuse : (f : Fault) → FirstFault window_checks (lengths_of c) f → d.commands ≡ [] → r ≡ answer_with (Fails f) (length d.commands)
+    windows_refuse : (f : Fault) → FirstFault window_checks (lengths_of c) f → d.commands ≡ [] → r ≡ answer_with (Err f) (length d.commands)
         → (r ≡ answer_of (walk_of base c old)) × (d.commands ≡ commands_of (walk_of base c old))
     unfolding window_fault answer_of commands_of end_of
     windows_refuse f q k a = let w = walk_unsound base c (room_of (length old)) (first_is q) in (a ∙ rw (w, k), k ∙ rw w)
 
-    walk_refuses : (f : Fault) → WalkFault base c (room_of (length old)) d.commands f → r ≡ answer_with (Fails f) (length d.commands)
+    walk_refuses : (f : Fault) → WalkFault base c (room_of (length old)) d.commands f → r ≡ answer_with (Err f) (length d.commands)
         → (r ≡ answer_of (walk_of base c old)) × (d.commands ≡ commands_of (walk_of base c old))
     unfolding answer_of
     walk_refuses f q a = let w = fault_told base c (room_of (length old)) q in (a ∙ rw (w.0, w.1), w.1)

@@ -1,13 +1,13 @@
 -- Demand 3 from the promise of `walk::check`, the only hypothesis; and what it says of any run of the streamer from the start that ends.
 -- Assumes nothing.
+use Rattle.std.specs.Prelude.{Ok}
 use Prim.Native.Nat.{ℕ}
 use mathlib.Core.Path.{◌≡◌, refl, sym, ap, ◌∙◌}
 use mathlib.Core.List.{List, [], map}
 use mathlib.Core.Option.{Option, some}
 use lib.ListN.{length, take}
+use Rattle.rules.specs.Step.{Base}
 use Rattle.rules.specs.declared.Answer.{Answer}
-use Rattle.rules.specs.declared.Base.{Base}
-use Rattle.rules.specs.declared.Verdict.TheVariants.{Pass}
 use Rattle.rules.specs.Windows.{Capture}
 use Rattle.rules.specs.Walk.{walk, commands_of, end_of}
 use Rattle.rules.specs.Records.{Checked, room_of, words_for, words_of, commands_in}
@@ -21,7 +21,7 @@ use Rattle.promises.proofs.Demand1.{count_told, records_stand}
 use Rattle.promises.proofs.Demand2.{passes}
 
 -- of every walk that is accepted, whatever its starting base
-pub accepted_streams : (base : Base) (c : Capture) (room : ℕ) → end_of (walk base c room) ≡ Pass
+pub accepted_streams : (base : Base) (c : Capture) (room : ℕ) → end_of (walk base c room) ≡ Ok tt
     → Demand3 c (length (commands_of (walk base c room))) (words_of (commands_of (walk base c room)))
 accepted_streams base c room e kept registers scratch l hardware =
     let s = streams base c room e kept registers scratch l hardware in

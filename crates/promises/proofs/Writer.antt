@@ -1,5 +1,6 @@
 -- What is written is read back, and any command is written back: from the promise of `writer::write`, the only hypothesis; and one answer only.
 -- Assumes nothing.
+use Rattle.std.specs.Prelude.{Ok, Err, None}
 use Prim.Native.Nat.{ℕ, ◌+◌, ◌≤◌, ◌<◌}
 use native.Mathlib.Omega.{arith}
 use mathlib.Core.Path.{◌≡◌, refl, sym, ap, ◌∙◌}
@@ -10,11 +11,9 @@ use lib.Seq.{take-length, drop_at, get_or-drop, length-take-le, take-append_seam
 use borrow.Author.Tests.{leb-false, lt-leb, le-ltb, not-false}
 use Rattle.rules.specs.declared.Answer.{Answer}
 use Rattle.rules.specs.declared.Cursor.{Cursor}
-use Rattle.rules.specs.declared.Verdict.{Verdict}
-use Rattle.rules.specs.declared.Verdict.TheVariants.{Pass, Fails}
+use Rattle.rules.specs.Refusals.{Verdict}
 use Rattle.rules.specs.Refusals.{answer_with, AllPass}
 use Rattle.rules.specs.Windows.{Capture}
-use Rattle.rules.specs.declared.Found.TheVariants.{Nothing}
 use Rattle.rules.specs.Words.{first_of}
 use Rattle.rules.specs.Commands.{Length, no_field, exactly, by_bit, groups, row_count, row_of, dword_count, the_row, length_of, length_right}
 use Rattle.rules.specs.Masks.{bit_wrong}
@@ -48,17 +47,17 @@ module _ (command : List ℕ) (first : ℕ) (old : List ℕ) (fits : first + len
       ∙ omega arith
 
 -- a success has written, and a refusal has a number
-verdict_told : (v : Verdict) (n : ℕ) → (answer_with v n).reason ≡ 0 → v ≡ Pass
+verdict_told : (v : Verdict) (n : ℕ) → (answer_with v n).reason ≡ 0 → v ≡ Ok tt
 unfolding answer_with
-verdict_told Pass n e = refl
-verdict_told (Fails f) n e = absurd (omega (arith, above_zero f.reason))
+verdict_told (Ok _) n e = refl
+verdict_told (Err f) n e = absurd (omega (arith, above_zero f.reason))
 
 module _ {row free : ℕ} {dwords : List ℕ} {first : ℕ} {old : List ℕ} {answer : Answer} {new : List ℕ} (w : Written row free dwords first old answer new)
     (accepted : answer.reason ≡ 0) where
   abbrev d : Draft
   d = draft row free dwords (length old) first
 
-  pass : write_verdict d ≡ Pass
+  pass : write_verdict d ≡ Ok tt
   pass = verdict_told (write_verdict d) _ (ap (λ (a : Answer). a.reason) (sym w.answers) ∙ accepted)
 
   long : length (command_for d) ≡ 1 + length dwords
@@ -140,7 +139,7 @@ module _ (command : List ℕ) (o : OneCommand command) where
   unfolding wrong_length
   right = not-false _ (refuse_passes _ _ o.passes.1.0)
 
-  kept : first_of (bit_wrong r (dwords_at command 0)) (length_at command 0) ≡ Nothing
+  kept : first_of (bit_wrong r (dwords_at command 0)) (length_at command 0) ≡ None
   unfolding bit_not_allowed
   kept = search_clear _ _ _ _ o.passes.1.1.0
 
@@ -158,7 +157,7 @@ module _ (command : List ℕ) (o : OneCommand command) where
   long_own : 1 + length (drop 1 command) ≡ length_of r (header_at command 0)
   long_own = omega (arith, ap length own, o.whole)
 
-  kept_own : first_of (bit_wrong r (header_at command 0 ∷ drop 1 command)) (1 + length (drop 1 command)) ≡ Nothing
+  kept_own : first_of (bit_wrong r (header_at command 0 ∷ drop 1 command)) (1 + length (drop 1 command)) ≡ None
   kept_own =
       ap (first_of (bit_wrong r (header_at command 0 ∷ drop 1 command))) long_own
       ∙ ap (λ (l : List ℕ). first_of (bit_wrong r l) (length_at command 0)) (sym own ∙ sym dwords_all)

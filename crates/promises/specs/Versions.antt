@@ -1,7 +1,6 @@
 -- Document 01, "Try these bad versions": what each of them is, of a checker that answers every capture and leaves every record buffer as it does.
-use Rattle.std.specs.Prelude.{ℕ, ◌≡◌, List, length}
+use Rattle.std.specs.Prelude.{ℕ, ◌≡◌, List, length, Option}
 use Rattle.rules.specs.declared.Answer.{Answer}
-use Rattle.rules.specs.declared.Base.{Base}
 use Rattle.rules.specs.Refusals.{AllPass}
 use Rattle.rules.specs.Windows.{Capture, lengths_of, window_checks}
 use Rattle.rules.specs.Step.{here, checks}
@@ -15,7 +14,7 @@ pub record Version : Type 0 where
   pub written : Capture → List ℕ → List ℕ
 
 -- it meets demand 2, whatever it is given
-abbrev pub Meets : Base → Version → Type 0
+abbrev pub Meets : Option ℕ → Version → Type 0
 Meets base v = (c : Capture) (old : List ℕ) → Demand2 base c old (v.answer c old) (v.written c old)
 
 -- "a checker that refuses all captures"
@@ -31,13 +30,13 @@ abbrev pub WritesNone : Version → Type 0
 WritesNone v = (c : Capture) (old : List ℕ) → v.written c old ≡ old
 
 -- "one that checks the first command and waves the rest through": it accepts whatever has no fault at its first command
-abbrev pub ChecksTheFirst : Base → Version → Type 0
+abbrev pub ChecksTheFirst : Option ℕ → Version → Type 0
 ChecksTheFirst base v =
     (c : Capture) (old : List ℕ) → AllPass window_checks (lengths_of c) → AllPass (checks 0 (room_of (length old))) (here c (start base))
     → (v.answer c old).reason ≡ 0
 
 -- "An invented command count": any count but that of the commands accepted, for some capture and record buffer
-pub record InventsCount (base : Base) (v : Version) : Type 0 where
+pub record InventsCount (base : Option ℕ) (v : Version) : Type 0 where
   pub capture : Capture
   pub old : List ℕ
   pub wrong : (v.answer capture old).count ≡ length (commands_of (walk base capture (room_of (length old)))) → ⊥

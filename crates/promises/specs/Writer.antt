@@ -1,9 +1,8 @@
 -- THE WRITER. "What it writes, the reader reads back as the same row and dwords; any command that passes checks 7, 8 and 10 is written back to the same
 -- dwords." (request 4) Both are said of every row at once; the reader is the checker's own decoder, which finds a command's row, length and dwords.
-use Rattle.std.specs.Prelude.{ℕ, ◌+◌, ◌^◌, ◌<◌, ◌≡◌, List, [], ◌∷◌, length, take, drop}
+use Rattle.std.specs.Prelude.{ℕ, ◌+◌, ◌^◌, ◌<◌, ◌≡◌, List, [], ◌∷◌, length, take, drop, None}
 use Rattle.std.specs.Int.Bits.{bit_and}
 use Rattle.rules.specs.declared.Answer.{Answer}
-use Rattle.rules.specs.declared.Base.TheVariants.{Unset}
 use Rattle.rules.specs.declared.Cursor.{Cursor}
 use Rattle.rules.specs.declared.Level.TheVariants.{First}
 use Rattle.rules.specs.Refusals.{AllPass}
@@ -29,7 +28,7 @@ pub record ReadBack (row free : ℕ) (dwords : List ℕ) (first : ℕ) (new : Li
 -- a command that stands alone in a batch
 abbrev pub alone_in : List ℕ → Here
 alone_in command =
-    here (record { batch = command; batch_at = 0; state = []; state_at = 0; scratch_at = 0; scratch_bytes = 0 }) (cursor 0 First Unset)
+    here (record { batch = command; batch_at = 0; state = []; state_at = 0; scratch_at = 0; scratch_bytes = 0 }) (cursor 0 First None)
 
 -- "any command that passes checks 7, 8 and 10": dwords that are one whole command, as many as its header says
 pub record OneCommand (command : List ℕ) : Type 0 where

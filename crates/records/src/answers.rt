@@ -1,19 +1,18 @@
 // The answer for a fault, or for the end of a run.
-ghost use Rattle.std.specs.Prelude.{◌≡◌, ◌^◌, ◌<◌};
-ghost use Rattle.rules.specs.declared.Verdict.TheVariants.{Pass, Fails};
+ghost use Rattle.std.specs.Prelude.{◌≡◌, ◌^◌, ◌<◌, Ok, Err};
 ghost use Rattle.rules.specs.Refusals.{answer_with};
 
-use rules::faults::number;
 use rules::{Answer, Fault};
 
 // The answer of a run that a fault ended after so many commands.
+#[tactic(auto, unfolding(rules::specs::Refusals::answer_with))]
 pub fn refusal(f: Fault, count: usize) -> Answer
     requires { (f.window < 2 ^ 32) × (f.index < 2 ^ 32) × (count < 2 ^ 32) }
-    ensures { result ≡ answer_with (Fails f) count }
+    ensures { result ≡ answer_with (Err f) count }
 {
     let reason = f.reason;
     Answer {
-        reason: number(reason),
+        reason: reason.into(),
         window: f.window as u32,
         index: f.index as u32,
         count: count as u32,
@@ -23,7 +22,7 @@ pub fn refusal(f: Fault, count: usize) -> Answer
 // The answer of a run that ended after so many commands.
 pub fn acceptance(count: usize) -> Answer
     requires { count < 2 ^ 32 }
-    ensures { result ≡ answer_with Pass count }
+    ensures { result ≡ answer_with (Ok tt) count }
 {
     Answer {
         reason: 0,

@@ -1,5 +1,6 @@
 -- A level-1 end finds a kept position, the dword after a start of this very run: what a step of the walk says of the moments up to it.
 -- Assumes nothing.
+use Rattle.std.specs.Prelude.{Option, None, Some, Ok}
 use Prim.Native.Nat.{ℕ, ◌+◌}
 use native.Mathlib.Omega.{arith}
 use mathlib.Core.Path.{◌≡◌, refl, sym, ap, ◌∙◌}
@@ -10,9 +11,6 @@ use lib.ListN.{get_or}
 use Rattle.rules.specs.declared.Level.TheVariants.{First, Second}
 use Rattle.rules.specs.declared.Cursor.{Cursor}
 use Rattle.rules.specs.declared.Command.{Command}
-use Rattle.rules.specs.declared.After.{After}
-use Rattle.rules.specs.declared.After.TheVariants.{Ends, To}
-use Rattle.rules.specs.declared.Outcome.TheVariants.{Taken}
 use Rattle.rules.specs.Words.{bit}
 use Rattle.rules.specs.Windows.{Capture}
 use Rattle.rules.specs.Commands.{end_row, start_row}
@@ -33,7 +31,7 @@ first_origin c past s e = λ back q. absurd (first_keeps_none (sym e ∙ q))
 
 -- the streamer's command at a moment is the walk's
 module _ (c : Capture) (s : Cursor) (m : Machine) (g : Agrees c s m) (k : Command) (same : fetched_command m ≡ k) (past : List Moment) (o : Origin c past s) where
-  module _ {a : After} (e : step_of c s ≡ Taken k a) where
+  module _ {a : Option Cursor} (e : step_of c s ≡ Ok (k, a)) where
     told : fetched_command m ≡ walk_command c.batch s
     told = same ∙ (took c s e).command
 
@@ -54,13 +52,13 @@ module _ (c : Capture) (s : Cursor) (m : Machine) (g : Agrees c s m) (k : Comman
     keeps_here effect r b = record { starts = row_is ∙ r; calls = header_bit b; after = ap (λ (j : Command). j.index + j.length) (sym told) }
 
   -- what was kept before, and what this moment keeps, is what the next cursor has kept
-  pub origin_next : (effect : Effect) {t : Cursor} → step_of c s ≡ Taken k (To t) → Origin c (moment m effect ∷ past) t
-  origin_next effect {t} e = by (To t) refl (taken_way c s e)
+  pub origin_next : (effect : Effect) {t : Cursor} → step_of c s ≡ Ok (k, Some t) → Origin c (moment m effect ∷ past) t
+  origin_next effect {t} e = by (Some t) refl (taken_way c s e)
     where
-      level : {u : Cursor} → To u ≡ To t → t.level ≡ u.level
+      level : {u : Cursor} → Some u ≡ Some t → t.level ≡ u.level
       level q = sym (ap (λ (u : Cursor). u.level) (same_cursor q))
 
-      by : (a : After) → a ≡ To t → Way c s a → Origin c (moment m effect ∷ past) t
+      by : (a : Option Cursor) → a ≡ Some t → Way c s a → Origin c (moment m effect ∷ past) t
       by a q (ends r l) = absurd (ends_nowhere q)
       by a q (returns r l) = first_origin c (moment m effect ∷ past) t (level q)
       by a q (jumps r b) = λ back x. inr (o back (sym (level q) ∙ x))
@@ -68,7 +66,7 @@ module _ (c : Capture) (s : Cursor) (m : Machine) (g : Agrees c s m) (k : Comman
       by a q (goes_on r n) = λ back x. inr (o back (sym (level q) ∙ x))
 
   -- an end at level 1 goes where one of them says
-  pub returns_here : (effect : Effect) {t : Cursor} → step_of c s ≡ Taken k (To t) → Agrees c t effect.machine
+  pub returns_here : (effect : Effect) {t : Cursor} → step_of c s ≡ Ok (k, Some t) → Agrees c t effect.machine
       → (fetched_command m).row ≡ end_row
       → Returns c.batch past m (moment m effect)
   returns_here effect {t} e h r =
@@ -76,11 +74,11 @@ module _ (c : Capture) (s : Cursor) (m : Machine) (g : Agrees c s m) (k : Comman
       record { back = t.at; kept = g.kept t.at l.1; own = o t.at l.1; goes = h.at; level = h.level ∙ ap is_second l.0 }
 
   -- and one that ends the run is at level 0
-  pub ends_first : step_of c s ≡ Taken k Ends → (fetched_command m).level ≡ 1 → ⊥
+  pub ends_first : step_of c s ≡ Ok (k, None) → (fetched_command m).level ≡ 1 → ⊥
   unfolding walk_command
-  ends_first e second = by Ends refl (taken_way c s e)
+  ends_first e second = by None refl (taken_way c s e)
     where
-      by : (a : After) → a ≡ Ends → Way c s a → ⊥
+      by : (a : Option Cursor) → a ≡ None → Way c s a → ⊥
       by a q (ends r l) = let z : ◌≡◌ {A = ℕ} 0 1 = ap Rattle.rules.specs.Step.level_number (sym l) ∙ ap (λ (j : Command). j.level) (sym (told e)) ∙ second in omega arith
       by a q (returns r l) = absurd (ends_nowhere (sym q))
       by a q (jumps r b) = absurd (ends_nowhere (sym q))

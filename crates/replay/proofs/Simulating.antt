@@ -1,5 +1,6 @@
 -- One step: wherever the walk takes a command, the streamer runs the same command, stores only in scratch, and stands where the walk stands next.
 -- Assumes nothing.
+use Rattle.std.specs.Prelude.{Option, None, Some, Ok}
 use Prim.Native.Nat.{ℕ, ◌+◌, ◌-◌, ◌*◌, ◌%◌, ◌≤◌, ◌<◌}
 use native.Mathlib.Omega.{arith}
 use mathlib.Core.Path.{◌≡◌, refl, sym, ap, ap₂, ◌∙◌, subst}
@@ -10,14 +11,11 @@ use mathlib.Core.Logic.{◌⊎◌, inl, inr}
 use lib.ListN.{length, get_or}
 use lib.Dec.{eqb, lit<}
 use borrow.Author.Tests.{eqb-true, eqb-false, eq-eqb, le-leb}
-use Rattle.rules.specs.declared.Base.{Base}
+use Rattle.rules.specs.Step.{Base}
 use Rattle.rules.specs.declared.Level.{Level}
 use Rattle.rules.specs.declared.Level.TheVariants.{First, Second}
 use Rattle.rules.specs.declared.Cursor.{Cursor}
 use Rattle.rules.specs.declared.Command.{Command}
-use Rattle.rules.specs.declared.After.{After}
-use Rattle.rules.specs.declared.After.TheVariants.{Ends, To}
-use Rattle.rules.specs.declared.Outcome.TheVariants.{Taken}
 use Rattle.rules.specs.Words.{bit, field, in_group}
 use Rattle.rules.specs.Windows.{Capture, windows_of, Inside, listed}
 use Rattle.rules.specs.Commands.{exactly, rows, the_row, length_of, group_size, length_right}
@@ -40,16 +38,16 @@ use Rattle.replay.proofs.Steps.{Kind, an_end, a_start, sets, loads, storing as a
 use Rattle.replay.proofs.Steps.{step_end, step_start, step_registers, step_load, step_stores, step_other}
 
 -- the streamer's step that a walk's move stands for, and where it leaves the machine
-abbrev pub step_with : After → Effect → Step
-step_with Ends e = Rattle.replay.specs.Streamer.ends e
-step_with (To t) e = goes e
+abbrev pub step_with : Option Cursor → Effect → Step
+step_with None e = Rattle.replay.specs.Streamer.ends e
+step_with (Some t) e = goes e
 
-abbrev pub Led : Capture → After → Machine → Type 0
-Led c Ends m = Windowed c m
-Led c (To t) m = Agrees c t m
+abbrev pub Led : Capture → Option Cursor → Machine → Type 0
+Led c None m = Windowed c m
+Led c (Some t) m = Agrees c t m
 
 -- the streamer's step beside a command that the walk takes
-pub record Simulated (c : Capture) (hardware : Hardware) (done : ℕ) (m : Machine) (k : Command) (a : After) : Type 0 where
+pub record Simulated (c : Capture) (hardware : Hardware) (done : ℕ) (m : Machine) (k : Command) (a : Option Cursor) : Type 0 where
   pub effect : Effect
   pub steps : step (map_of c) hardware done m ≡ step_with a effect
   pub led : Led c a effect.machine
@@ -258,7 +256,7 @@ module _ (c : Capture) (sound : Sound (listed (windows_of c))) (hardware : Hardw
   kept_windows : (x : Machine) → x.batch ≡ m.batch → x.state ≡ m.state → x.scratch ≡ m.scratch → Windowed c x
   kept_windows x b t u = record { batch = b ∙ g.windowed.batch; state = t ∙ g.windowed.state; scratch = ap length u ∙ g.windowed.scratch }
 
-  moved : {a : After} → Way c s a → (x : Effect) × (run ≡ step_with a x) × Led c a x.machine × AllInScratch c x.stored
+  moved : {a : Option Cursor} → Way c s a → (x : Effect) × (run ≡ step_with a x) × Led c a x.machine × AllInScratch c x.stored
   unfolding end_batch
   moved (ends r l) =
       (record { machine = m; stored = [] }, step_end (map_of c) hardware done m whole (row_is c s m p g ∙ r) ∙ rw (g.level, l), g.windowed, tt)
@@ -289,7 +287,7 @@ module _ (c : Capture) (sound : Sound (listed (windows_of c))) (hardware : Hardw
 
 -- THE STEP
 pub simulated : (c : Capture) → Sound (listed (windows_of c))
-    → (hardware : Hardware) (done : ℕ) (s : Cursor) (m : Machine) {k : Command} {a : After} → Agrees c s m → step_of c s ≡ Taken k a
+    → (hardware : Hardware) (done : ℕ) (s : Cursor) (m : Machine) {k : Command} {a : Option Cursor} → Agrees c s m → step_of c s ≡ Ok (k, a)
     → Simulated c hardware done m k a
 simulated c sound hardware done s m g e =
     let t = took c s e in

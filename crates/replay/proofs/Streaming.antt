@@ -1,17 +1,15 @@
 -- The whole run: where the walk accepts, the streamer runs to the end in exactly the walk's commands.
 -- Assumes nothing.
+use Rattle.std.specs.Prelude.{Ok, None, Some, Err}
 use Prim.Native.Nat.{ℕ, zero, suc, ◌+◌, ◌/◌}
 use mathlib.Core.Path.{◌≡◌, refl, sym, ap, ap₂}
 use mathlib.Core.List.{List, [], ◌∷◌, map}
 use mathlib.Core.Option.{Option, some, none}
 use lib.ListN.{length}
-use Rattle.rules.specs.declared.Base.{Base}
+use Rattle.rules.specs.Step.{Base}
 use Rattle.rules.specs.declared.Cursor.{Cursor}
 use Rattle.rules.specs.declared.Command.{Command}
-use Rattle.rules.specs.declared.After.TheVariants.{Ends, To}
-use Rattle.rules.specs.declared.Outcome.{Outcome}
-use Rattle.rules.specs.declared.Outcome.TheVariants.{Taken, Refused}
-use Rattle.rules.specs.declared.Verdict.TheVariants.{Pass}
+use Rattle.rules.specs.Step.{Outcome}
 use Rattle.rules.specs.Windows.{Capture, windows_of, lengths_of, listed}
 use Rattle.rules.specs.Step.{budget, step_of}
 use Rattle.rules.specs.Walk.{trace, cut, start, walk, commands_of, end_of}
@@ -38,14 +36,14 @@ pub record Streams (c : Capture) (hardware : Hardware) (done : ℕ) (past : List
 
 follows : (left room : ℕ) (c : Capture) → Sound (listed (windows_of c))
     → (hardware : Hardware) (done : ℕ) (past : List Moment) (s : Cursor) (m : Machine) (o : Outcome)
-    → step_of c s ≡ o → Agrees c s m → Origin c past s → end_of (cut room (trace left c s o)) ≡ Pass
+    → step_of c s ≡ o → Agrees c s m → Origin c past s → end_of (cut room (trace left c s o)) ≡ Ok tt
     → Streams c hardware done past m (commands_of (cut room (trace left c s o)))
 unfolding trace cut commands_of end_of run
 follows zero room c w hardware done past s m o e g a h = absurd (fails_not_pass h)
-follows (suc left) room c w hardware done past s m (Refused f) e g a h = absurd (fails_not_pass h)
-follows (suc left) zero c w hardware done past s m (Taken k Ends) e g a h = absurd (fails_not_pass h)
-follows (suc left) zero c w hardware done past s m (Taken k (To t)) e g a h = absurd (fails_not_pass h)
-follows (suc left) (suc room) c w hardware done past s m (Taken k Ends) e g a h =
+follows (suc left) room c w hardware done past s m (Err f) e g a h = absurd (fails_not_pass h)
+follows (suc left) zero c w hardware done past s m (Ok (k, None)) e g a h = absurd (fails_not_pass h)
+follows (suc left) zero c w hardware done past s m (Ok (k, Some t)) e g a h = absurd (fails_not_pass h)
+follows (suc left) (suc room) c w hardware done past s m (Ok (k, None)) e g a h =
     let x = simulated c w hardware done s m g e in
     record {
       moments = moment m x.effect ∷ [];
@@ -54,7 +52,7 @@ follows (suc left) (suc room) c w hardware done past s m (Taken k Ends) e g a h 
       fair = (record { stored = x.inside; batch = x.led.batch; state = x.led.state }, tt);
       returns = (λ row level. absurd (ends_first c s m g k x.command past a e level), tt);
     }
-follows (suc left) (suc room) c w hardware done past s m (Taken k (To t)) e g a h =
+follows (suc left) (suc room) c w hardware done past s m (Ok (k, Some t)) e g a h =
     let x = simulated c w hardware done s m g e in
     let y = moment m x.effect in
     let b = origin_next c s m g k x.command past a x.effect e in
@@ -68,7 +66,7 @@ follows (suc left) (suc room) c w hardware done past s m (Taken k (To t)) e g a 
     }
 
 -- THE RUN, for every starting base of the walk
-pub streams : (base : Base) (c : Capture) (room : ℕ) → end_of (walk base c room) ≡ Pass
+pub streams : (base : Base) (c : Capture) (room : ℕ) → end_of (walk base c room) ≡ Ok tt
     → (kept : Option ℕ) (registers : ℕ → ℕ) (scratch : List ℕ)
     → length scratch ≡ c.scratch_bytes / 4 → (hardware : Hardware)
     → Streams c hardware 0 [] (at_start c kept registers scratch) (commands_of (walk base c room))

@@ -1,5 +1,6 @@
 -- Request 5: where a walk with no base at the start does not end in 14, a walk with one takes the same commands and ends in the same way.
 -- Assumes nothing.
+use Rattle.std.specs.Prelude.{Ok, Err, None, Some, Option}
 use Prim.Native.Nat.{ℕ, zero, suc, ◌+◌}
 use mathlib.Core.Path.{◌≡◌, refl, sym, ap, ◌∙◌}
 use mathlib.Core.Bool.{Bool, true, false, cond, ◌&&◌}
@@ -7,20 +8,14 @@ use mathlib.Core.List.{List, [], ◌∷◌}
 use mathlib.Core.Logic.{◌⊎◌, inl, inr, ⊎_elim}
 use lib.ListN.{get_or}
 use lib.Dec.{eqb}
-use Rattle.rules.specs.declared.Base.TheVariants.{Unset, Set}
+use Rattle.rules.specs.declared.Kind.{Kind}
 use Rattle.rules.specs.declared.Cursor.{Cursor}
 use Rattle.rules.specs.declared.Command.{Command}
 use Rattle.rules.specs.declared.Level.{Level}
 use Rattle.rules.specs.declared.Level.TheVariants.{First, Second}
-use Rattle.rules.specs.declared.After.{After}
-use Rattle.rules.specs.declared.After.TheVariants.{Ends, To}
 use Rattle.rules.specs.declared.Fault.{Fault}
-use Rattle.rules.specs.declared.Outcome.TheVariants.{Taken}
-use Rattle.rules.specs.declared.Pointer.{Pointer}
-use Rattle.rules.specs.declared.Pointer.TheVariants.{NoPointer, PointsTo}
 use Rattle.rules.specs.declared.Reason.TheVariants.{BaseNeverSet}
-use Rattle.rules.specs.declared.Verdict.{Verdict}
-use Rattle.rules.specs.declared.Verdict.TheVariants.{Pass, Fails}
+use Rattle.rules.specs.Refusals.{Verdict}
 use Rattle.rules.specs.Words.{bit}
 use Rattle.rules.specs.Refusals.{number_of, batch_window, fault, tried, first_fault}
 use Rattle.rules.specs.Windows.{Capture, lengths_of, windows_of, window_fault, dword_of}
@@ -42,13 +37,13 @@ abbrev behind : List (Here → Verdict)
 behind = base_never_set ∷ of_structure structure_nowhere ∷ of_structure structure_bit ∷ of_structure structure_value ∷ []
 
 -- where two moves lead that differ in the base alone: to the same place, or to places that differ in the base alone
-data Near (b : ℕ) : After → After → Type 0 where
-  both : {a : After} → Near b a a
-  apart : {at : ℕ} {level : Level} → Near b (To (cursor at level Unset)) (To (cursor at level (Set b)))
+data Near (b : ℕ) : Option Cursor → Option Cursor → Type 0 where
+  both : {a : Option Cursor} → Near b a a
+  apart : {at : ℕ} {level : Level} → Near b (Some (cursor at level None)) (Some (cursor at level (Some b)))
 
 moves : (b : ℕ) (e s t : Bool) (l : Level) (target next : ℕ) (start level : Level) (new : ℕ)
-    → Near b (cond e (after_end l Unset) (cond s (To (cursor target start Unset)) (To (cursor next level (cond t (Set new) Unset)))))
-    (cond e (after_end l (Set b)) (cond s (To (cursor target start (Set b))) (To (cursor next level (cond t (Set new) (Set b))))))
+    → Near b (cond e (after_end l None) (cond s (Some (cursor target start None)) (Some (cursor next level (cond t (Some new) None)))))
+    (cond e (after_end l (Some b)) (cond s (Some (cursor target start (Some b))) (Some (cursor next level (cond t (Some new) (Some b))))))
 unfolding after_end
 moves b true s t First target next start level new = both
 moves b true s t (Second back) target next start level new = apart
@@ -58,7 +53,7 @@ moves b false false false l target next start level new = apart
 
 -- an end in 14
 abbrev pub Fourteen : Verdict → Type 0
-Fourteen v = (f : Fault) × (v ≡ Fails f) × (number_of f.reason ≡ 14)
+Fourteen v = (f : Fault) × (v ≡ Err f) × (number_of f.reason ≡ 14)
 
 -- checks that say the same at two places
 abbrev AllSame : {A : Type 0} → List (A → Verdict) → A → A → Type 0
@@ -68,42 +63,42 @@ AllSame (check ∷ checks) x y = (check x ≡ check y) × AllSame checks x y
 tried_same : {A : Type 0} (x y : A) (checks : List (A → Verdict)) (said : Verdict) → AllSame checks x y → tried checks said x ≡ tried checks said y
 unfolding tried
 tried_same x y [] said p = refl
-tried_same x y (check ∷ checks) (Fails f) p = refl
-tried_same x y (check ∷ checks) Pass p = ap (λ (v : Verdict). tried checks v x) p.0 ∙ tried_same x y checks (check y) p.1
+tried_same x y (check ∷ checks) (Err f) p = refl
+tried_same x y (check ∷ checks) (Ok _) p = ap (λ (v : Verdict). tried checks v x) p.0 ∙ tried_same x y checks (check y) p.1
 
 module _ (c : Capture) (b at : ℕ) (level : Level) where
   abbrev without : Cursor
-  without = cursor at level Unset
+  without = cursor at level None
 
   abbrev with : Cursor
-  with = cursor at level (Set b)
+  with = cursor at level (Some b)
 
   abbrev verdict : Cursor → Verdict
   verdict s = first_fault step_checks (here c s)
 
   split : (s : Cursor) → verdict s ≡ tried behind (first_fault before (here c s)) (here c s)
   unfolding step_checks structure_checks
-  split s = tried_append (here c s) before behind Pass
+  split s = tried_append (here c s) before behind (Ok tt)
 
   same_before : first_fault before (here c without) ≡ first_fault before (here c with)
   unfolding ran_off unknown_header wrong_length past_the_window bit_not_allowed nested_start value_broken range_outside
-  same_before = tried_same (here c without) (here c with) before Pass (refl, (refl, (refl, (refl, (refl, (refl, (refl, (refl, tt))))))))
+  same_before = tried_same (here c without) (here c with) before (Ok tt) (refl, (refl, (refl, (refl, (refl, (refl, (refl, (refl, tt))))))))
 
-  abbrev pointer : Pointer
+  abbrev pointer : Option (Kind × ℕ)
   pointer = pointer_of (row_at c.batch at) (dwords_at c.batch at)
 
   abbrev missing : Fault
   missing = fault BaseNeverSet batch_window (at + 1)
 
   -- behind them: the same, or 14
-  behind_alike : (v : Verdict) (p : Pointer) → pointer ≡ p
+  behind_alike : (v : Verdict) (p : Option (Kind × ℕ)) → pointer ≡ p
       → Fourteen (tried behind v (here c without)) ⊎ (tried behind v (here c without) ≡ tried behind v (here c with))
   unfolding tried base_never_set number_of
-  behind_alike (Fails f) p e = inr (stays_failed behind f (here c without) ∙ sym (stays_failed behind f (here c with)))
-  behind_alike Pass NoPointer e = inr (tried_same (here c without) (here c with) behind Pass (rw e, (rw e, (rw e, (rw e, tt)))))
-  behind_alike Pass (PointsTo kind offset) e =
+  behind_alike (Err f) p e = inr (stays_failed behind f (here c without) ∙ sym (stays_failed behind f (here c with)))
+  behind_alike (Ok _) None e = inr (tried_same (here c without) (here c with) behind (Ok tt) (rw e, (rw e, (rw e, (rw e, tt)))))
+  behind_alike (Ok _) (Some (kind, offset)) e =
       let rest = of_structure structure_nowhere ∷ of_structure structure_bit ∷ of_structure structure_value ∷ [] in
-      let fourteen : base_never_set (here c without) ≡ Fails missing = rw e in
+      let fourteen : base_never_set (here c without) ≡ Err missing = rw e in
       inl (missing, ap (λ (v : Verdict). tried rest v (here c without)) fourteen ∙ stays_failed rest missing (here c without), refl)
 
   alike : Fourteen (verdict without) ⊎ (verdict without ≡ verdict with)
@@ -113,7 +108,7 @@ module _ (c : Capture) (b at : ℕ) (level : Level) where
       (behind_alike (first_fault before (here c without)) pointer refl)
 
   -- the moves of the command there
-  move : Cursor → After
+  move : Cursor → Option Cursor
   move s = move_of c s (row_at c.batch at) (dwords_at c.batch at) (at + length_at c.batch at)
 
   near : Near b (move without) (move with)
@@ -143,8 +138,8 @@ rest c left room s = cut room (trace left c s (step_of c s))
 
 abbrev Follows : Capture → ℕ → ℕ → Type 0
 Follows c b left =
-    (room at : ℕ) (level : Level) → (Fourteen (end_of (rest c left room (cursor at level Unset))) → ⊥)
-    → rest c left room (cursor at level (Set b)) ≡ rest c left room (cursor at level Unset)
+    (room at : ℕ) (level : Level) → (Fourteen (end_of (rest c left room (cursor at level None))) → ⊥)
+    → rest c left room (cursor at level (Some b)) ≡ rest c left room (cursor at level None)
 
 one_more : (c : Capture) (b left : ℕ) → Follows c b left → Follows c b (suc left)
 unfolding trace cut end_of
@@ -153,28 +148,28 @@ one_more c b left ih room at level h = ⊎_elim fourteen (λ e. same (verdict c 
     fourteen : Fourteen (verdict c b at level (without c b at level)) → rest c (suc left) room (with c b at level) ≡ rest c (suc left) room (without c b at level)
     fourteen x = absurd (h (x.0, rw (step_without c b at level x.1), x.2))
 
-    again : (a : After) → step_of c (without c b at level) ≡ Taken (command c b at level) a → step_of c (with c b at level) ≡ Taken (command c b at level) a
+    again : (a : Option Cursor) → step_of c (without c b at level) ≡ Ok (command c b at level, a) → step_of c (with c b at level) ≡ Ok (command c b at level, a)
         → (n : ℕ) → rest c (suc left) n (with c b at level) ≡ rest c (suc left) n (without c b at level)
-    again Ends o o' n = rw (o, o')
-    again (To t) o o' n = rw (o, o')
+    again None o o' n = rw (o, o')
+    again (Some t) o o' n = rw (o, o')
 
-    onward : (at' : ℕ) (level' : Level) → step_of c (without c b at level) ≡ Taken (command c b at level) (To (cursor at' level' Unset))
-        → step_of c (with c b at level) ≡ Taken (command c b at level) (To (cursor at' level' (Set b))) → (n : ℕ) → n ≡ room
+    onward : (at' : ℕ) (level' : Level) → step_of c (without c b at level) ≡ Ok (command c b at level, Some (cursor at' level' None))
+        → step_of c (with c b at level) ≡ Ok (command c b at level, Some (cursor at' level' (Some b))) → (n : ℕ) → n ≡ room
         → rest c (suc left) n (with c b at level) ≡ rest c (suc left) n (without c b at level)
     onward at' level' o o' zero e = rw (o, o')
     onward at' level' o o' (suc n) e =
-        let not_there : Fourteen (end_of (rest c left n (cursor at' level' Unset))) → ⊥ = λ x. h (x.0, rw (← e, o) x.1, x.2) in
+        let not_there : Fourteen (end_of (rest c left n (cursor at' level' None))) → ⊥ = λ x. h (x.0, rw (← e, o) x.1, x.2) in
         rw (o, o') (ap (then (command c b at level)) (ih n at' level' not_there))
 
-    taken : (a a' : After) → Near b a a' → step_of c (without c b at level) ≡ Taken (command c b at level) a
-        → step_of c (with c b at level) ≡ Taken (command c b at level) a' → rest c (suc left) room (with c b at level) ≡ rest c (suc left) room (without c b at level)
+    taken : (a a' : Option Cursor) → Near b a a' → step_of c (without c b at level) ≡ Ok (command c b at level, a)
+        → step_of c (with c b at level) ≡ Ok (command c b at level, a') → rest c (suc left) room (with c b at level) ≡ rest c (suc left) room (without c b at level)
     taken a a' both o o' = again a o o' room
     taken a a' (apart {at = at'} {level = level'}) o o' = onward at' level' o o' room refl
 
     same : (v : Verdict) → verdict c b at level (without c b at level) ≡ v → verdict c b at level (with c b at level) ≡ verdict c b at level (without c b at level)
         → rest c (suc left) room (with c b at level) ≡ rest c (suc left) room (without c b at level)
-    same (Fails f) e q = rw (step_without c b at level e, step_with_lem c b at level (q ∙ e))
-    same Pass e q = taken _ _ (near c b at level) (step_without c b at level e) (step_with_lem c b at level (q ∙ e))
+    same (Err f) e q = rw (step_without c b at level e, step_with_lem c b at level (q ∙ e))
+    same (Ok _) e q = taken _ _ (near c b at level) (step_without c b at level e) (step_with_lem c b at level (q ∙ e))
 
 follows : (c : Capture) (b left : ℕ) → Follows c b left
 unfolding trace cut
@@ -182,11 +177,11 @@ follows c b zero room at level h = refl
 follows c b (suc left) room at level h = one_more c b left (follows c b left) room at level h
 
 -- THE SAME RUN: whatever the base at the start, where none does not end in 14
-pub same_unless_fourteen : (b : ℕ) (c : Capture) (room : ℕ) → (Fourteen (end_of (walk Unset c room)) → ⊥) → walk (Set b) c room ≡ walk Unset c room
+pub same_unless_fourteen : (b : ℕ) (c : Capture) (room : ℕ) → (Fourteen (end_of (walk None c room)) → ⊥) → walk (Some b) c room ≡ walk None c room
 same_unless_fourteen b c room h = by (window_fault (lengths_of c)) refl
   where
-    by : (v : Verdict) → window_fault (lengths_of c) ≡ v → walk (Set b) c room ≡ walk Unset c room
-    by Pass e =
-        let not_there : Fourteen (end_of (rest c budget room (cursor 0 First Unset))) → ⊥ = λ x. h (x.0, rw (walk_sound Unset c room e) x.1, x.2) in
-        walk_sound (Set b) c room e ∙ follows c b budget room 0 First not_there ∙ sym (walk_sound Unset c room e)
-    by (Fails f) e = walk_unsound (Set b) c room e ∙ sym (walk_unsound Unset c room e)
+    by : (v : Verdict) → window_fault (lengths_of c) ≡ v → walk (Some b) c room ≡ walk None c room
+    by (Ok _) e =
+        let not_there : Fourteen (end_of (rest c budget room (cursor 0 First None))) → ⊥ = λ x. h (x.0, rw (walk_sound None c room e) x.1, x.2) in
+        walk_sound (Some b) c room e ∙ follows c b budget room 0 First not_there ∙ sym (walk_sound None c room e)
+    by (Err f) e = walk_unsound (Some b) c room e ∙ sym (walk_unsound None c room e)

@@ -1,6 +1,7 @@
 -- What demand 2 says of a walk decides it: where no check faults, where the commands are a run to the end, and where a fault is the first, the walk's
 -- own end and commands are these and no others.
 -- Assumes nothing.
+use Rattle.std.specs.Prelude.{Ok, Err, Option, None, Some}
 use Prim.Native.Nat.{ℕ, ◌<◌}
 use native.Mathlib.Omega.{arith}
 use mathlib.Core.Path.{◌≡◌, refl, sym, ap, ◌∙◌, subst}
@@ -9,31 +10,29 @@ use mathlib.Core.Logic.{⊎_elim}
 use lib.ListN.{length}
 use lib.Dec.{ltb}
 use borrow.Author.Tests.{ltb-true, ltb-false}
-use Rattle.rules.specs.declared.Base.{Base}
+use Rattle.rules.specs.Step.{Outcome}
 use Rattle.rules.specs.declared.Cursor.{Cursor}
 use Rattle.rules.specs.declared.Command.{Command}
-use Rattle.rules.specs.declared.After.TheVariants.{Ends, To}
-use Rattle.rules.specs.declared.Outcome.TheVariants.{Taken}
 use Rattle.rules.specs.declared.Fault.{Fault}
-use Rattle.rules.specs.declared.Verdict.{Verdict}
-use Rattle.rules.specs.declared.Verdict.TheVariants.{Pass, Fails}
+use Rattle.rules.specs.Refusals.{Verdict}
 use Rattle.rules.specs.Refusals.{first_fault}
 use Rattle.rules.specs.Windows.{Capture, lengths_of}
 use Rattle.rules.specs.Step.{here, checks, step_of}
 use Rattle.rules.specs.Walk.{walk, Leads, stays, onward, commands_of, end_of, NoFault, Complete, WalkFault}
 use Rattle.rules.proofs.Searching.{either}
 use Rattle.rules.proofs.Trying.{fails_not_pass, same_fault, no_fault, first_is}
+use Rattle.rules.proofs.Stepping.{taken_command, taken_after}
 use Rattle.rules.proofs.Walking.{no_window_fault, refusal, accepted_passes, completion}
 
 -- a step is one only
-same_step : {k l : Command} {t u : Cursor} → Taken k (To t) ≡ Taken l (To u) → (k ≡ l) × (t ≡ u)
-same_step e = (cc, cc)
+same_step : {k l : Command} {t u : Cursor} → ◌≡◌ {A = Outcome} (Ok (k, Some t)) (Ok (l, Some u)) → (k ≡ l) × (t ≡ u)
+same_step e = (sym (taken_command e), let q = taken_after e in cc)
 
-same_last : {k l : Command} → Taken k Ends ≡ Taken l Ends → k ≡ l
-same_last e = cc
+same_last : {k l : Command} → ◌≡◌ {A = Outcome} (Ok (k, None)) (Ok (l, None)) → k ≡ l
+same_last e = sym (taken_command e)
 
-goes_not_ends : {k l : Command} {t : Cursor} → Taken k (To t) ≡ Taken l Ends → ⊥
-goes_not_ends e = let z : ◌≡◌ {A = ℕ} 0 1 = cc in omega arith
+goes_not_ends : {k l : Command} {t : Cursor} → ◌≡◌ {A = Outcome} (Ok (k, Some t)) (Ok (l, None)) → ⊥
+goes_not_ends e = let q = taken_after e in let z : ◌≡◌ {A = ℕ} 0 1 = cc in omega arith
 
 module _ (c : Capture) where
   -- from a cursor, so many commands lead one way only
@@ -48,8 +47,8 @@ module _ (c : Capture) where
       (ap (λ (i : Command). i ∷ ks) n.0 ∙ ap (λ (is : List Command). j ∷ is) r.0, r.1)
 
   -- and to one end
-  pub one_end : {s t u : Cursor} {ks ls : List Command} {k l : Command} → Leads c s ks t → step_of c t ≡ Taken k Ends
-      → Leads c s ls u → step_of c u ≡ Taken l Ends
+  pub one_end : {s t u : Cursor} {ks ls : List Command} {k l : Command} → Leads c s ks t → step_of c t ≡ Ok (k, None)
+      → Leads c s ls u → step_of c u ≡ Ok (l, None)
       → ks ++ (k ∷ []) ≡ ls ++ (l ∷ [])
   one_end stays p stays q = ap (λ (j : Command). j ∷ []) (same_last (sym p ∙ q))
   one_end stays p (onward e m) q = absurd (goes_not_ends (sym e ∙ p))
@@ -59,9 +58,9 @@ module _ (c : Capture) where
       let r = one_end {l = last} m p (subst (λ (w : Cursor). Leads c w ls u) (sym o.1) n) q in
       ap (λ (js : List Command). k ∷ js) r ∙ ap (λ (i : Command). i ∷ (ls ++ (last ∷ []))) o.0
 
-module _ (base : Base) (c : Capture) (room : ℕ) where
+module _ (base : Option ℕ) (c : Capture) (room : ℕ) where
   -- a run to the end is the walk's own, where the walk is accepted
-  pub complete_told : {ks : List Command} → end_of (walk base c room) ≡ Pass → Complete base c ks
+  pub complete_told : {ks : List Command} → end_of (walk base c room) ≡ Ok tt → Complete base c ks
       → ks ≡ commands_of (walk base c room)
   complete_told e p =
       let q = completion base c room e in
@@ -86,17 +85,17 @@ module _ (base : Base) (c : Capture) (room : ℕ) where
       (λ u. omega (arith, ltb-false (length ks) (length ls) t, ltb-false (length ls) (length ks) u)) (either (ltb (length ls) (length ks))))
       (either (ltb (length ks) (length ls))) in
       let w = one_way c p.reached q.reached n in
-      let same : Fails f ≡ Fails g =
+      let same : Err f ≡ Err g =
       sym (first_is p.first) ∙ ap (λ (s : Cursor). first_fault (checks (length ks) room) (here c s)) w.1
       ∙ ap (λ (i : ℕ). first_fault (checks i room) (here c q.cursor)) n ∙ first_is q.first in
       (w.0, same_fault same)
 
   -- a first fault is the walk's own end, and the commands before it those that it tells
   pub fault_told : {ks : List Command} {f : Fault} → WalkFault base c room ks f
-      → (end_of (walk base c room) ≡ Fails f) × (ks ≡ commands_of (walk base c room))
+      → (end_of (walk base c room) ≡ Err f) × (ks ≡ commands_of (walk base c room))
   fault_told {ks} {f} p = by (end_of (walk base c room)) refl
     where
-      by : (v : Verdict) → end_of (walk base c room) ≡ v → (v ≡ Fails f) × (ks ≡ commands_of (walk base c room))
-      by Pass e = absurd (faults p (accepted_passes base c room e))
-      by (Fails g) e =
-          ⊎_elim (λ q. absurd (fails_not_pass (sym q.0 ∙ no_window_fault (lengths_of c) p.sound))) (λ q. let s = same_fault_at p q in (ap Fails (sym s.1), s.0)) (refusal base c room e)
+      by : (v : Verdict) → end_of (walk base c room) ≡ v → (v ≡ Err f) × (ks ≡ commands_of (walk base c room))
+      by (Ok _) e = absurd (faults p (accepted_passes base c room e))
+      by (Err g) e =
+          ⊎_elim (λ q. absurd (fails_not_pass (sym q.0 ∙ no_window_fault (lengths_of c) p.sound))) (λ q. let s = same_fault_at p q in (ap Err (sym s.1), s.0)) (refusal base c room e)

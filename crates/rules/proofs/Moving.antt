@@ -1,5 +1,6 @@
 -- Where a command that is taken leads: the five ways, a return to level 0 among them, and that the walk never leaves the batch.
 -- Assumes nothing.
+use Rattle.std.specs.Prelude.{Option, None, Some, Ok}
 use Prim.Native.Nat.{ℕ, ◌+◌, ◌≤◌, ◌<◌}
 use native.Mathlib.Omega.{arith}
 use mathlib.Core.Path.{◌≡◌, refl, sym, ap, ◌∙◌}
@@ -8,14 +9,10 @@ use mathlib.Core.List.{List}
 use lib.ListN.{length, get_or}
 use lib.Dec.{eqb}
 use borrow.Author.Tests.{eqb-true, eqb-false}
-use Rattle.rules.specs.declared.Base.{Base}
 use Rattle.rules.specs.declared.Level.{Level}
 use Rattle.rules.specs.declared.Level.TheVariants.{First, Second}
 use Rattle.rules.specs.declared.Cursor.{Cursor}
 use Rattle.rules.specs.declared.Command.{Command}
-use Rattle.rules.specs.declared.After.{After}
-use Rattle.rules.specs.declared.After.TheVariants.{Ends, To}
-use Rattle.rules.specs.declared.Outcome.TheVariants.{Taken}
 use Rattle.rules.specs.Words.{bit}
 use Rattle.rules.specs.Windows.{Capture, windows_of, dword_of, Inside}
 use Rattle.rules.specs.Commands.{rows, the_row, length_of, end_row, start_row}
@@ -27,10 +24,10 @@ use Rattle.rules.proofs.Ranges.{in_batch}
 use Rattle.rules.proofs.Storing.{access_fits, start_reaches}
 
 -- what the constructors keep apart, and what they keep
-pub same_cursor : {u v : Cursor} → To u ≡ To v → u ≡ v
+pub same_cursor : {u v : Cursor} → Some u ≡ Some v → u ≡ v
 same_cursor q = cc
 
-pub ends_nowhere : {t : Cursor} → Ends ≡ To t → ⊥
+pub ends_nowhere : {t : Cursor} → None ≡ Some t → ⊥
 ends_nowhere q = let z : ◌≡◌ {A = ℕ} 0 1 = cc in omega arith
 
 pub first_keeps_none : {back : ℕ} → First ≡ Second back → ⊥
@@ -48,15 +45,15 @@ target_at c s = dword_of (windows_of c).batch (address_at (dwords_at c.batch s.a
 
 -- the five ways on: a batch end ends the run at level 0 and returns to the kept position, level 0, at level 1; a start goes to its target,
 -- keeping the position after itself or not; any other command goes on by its length
-pub data Way (c : Capture) (s : Cursor) : After → Type 0 where
-  ends : row_at c.batch s.at ≡ end_row → s.level ≡ First → Way c s Ends
-  returns : {back : ℕ} → row_at c.batch s.at ≡ end_row → s.level ≡ Second back → Way c s (To (cursor back First s.base))
+pub data Way (c : Capture) (s : Cursor) : Option Cursor → Type 0 where
+  ends : row_at c.batch s.at ≡ end_row → s.level ≡ First → Way c s None
+  returns : {back : ℕ} → row_at c.batch s.at ≡ end_row → s.level ≡ Second back → Way c s (Some (cursor back First s.base))
   jumps : row_at c.batch s.at ≡ start_row → bit (get_or (dwords_at c.batch s.at) 0 0) 22 ≡ false
-      → Way c s (To (cursor (target_at c s) s.level s.base))
+      → Way c s (Some (cursor (target_at c s) s.level s.base))
   calls : row_at c.batch s.at ≡ start_row → bit (get_or (dwords_at c.batch s.at) 0 0) 22 ≡ true
-      → Way c s (To (cursor (target_at c s) (Second (next_at c s)) s.base))
+      → Way c s (Some (cursor (target_at c s) (Second (next_at c s)) s.base))
   goes_on : (row_at c.batch s.at ≡ end_row → ⊥) → (row_at c.batch s.at ≡ start_row → ⊥)
-      → Way c s (To (cursor (next_at c s) s.level (base_after (row_at c.batch s.at) (dwords_at c.batch s.at) s.base)))
+      → Way c s (Some (cursor (next_at c s) s.level (base_after (row_at c.batch s.at) (dwords_at c.batch s.at) s.base)))
 
 end_way : (c : Capture) (s : Cursor) (l : Level) → s.level ≡ l → row_at c.batch s.at ≡ end_row → Way c s (after_end l s.base)
 unfolding after_end
@@ -65,7 +62,7 @@ end_way c s (Second back) e r = returns r e
 
 start_way : (c : Capture) (s : Cursor) (b : Bool) → bit (get_or (dwords_at c.batch s.at) 0 0) 22 ≡ b
     → row_at c.batch s.at ≡ start_row
-    → Way c s (To (cursor (target_at c s) (cond b (Second (next_at c s)) s.level) s.base))
+    → Way c s (Some (cursor (target_at c s) (cond b (Second (next_at c s)) s.level) s.base))
 start_way c s false e r = jumps r e
 start_way c s true e r = calls r e
 
@@ -75,22 +72,22 @@ way c s = by (eqb (row_at c.batch s.at) end_row) (eqb (row_at c.batch s.at) star
   where
     by : (a b : Bool) → eqb (row_at c.batch s.at) end_row ≡ a → eqb (row_at c.batch s.at) start_row ≡ b
         → Way c s (cond a (after_end s.level s.base)
-        (cond b (To (cursor (target_at c s) (level_after_start (get_or (dwords_at c.batch s.at) 0 0) (next_at c s) s.level) s.base))
-        (To (cursor (next_at c s) s.level (base_after (row_at c.batch s.at) (dwords_at c.batch s.at) s.base)))))
+        (cond b (Some (cursor (target_at c s) (level_after_start (get_or (dwords_at c.batch s.at) 0 0) (next_at c s) s.level) s.base))
+        (Some (cursor (next_at c s) s.level (base_after (row_at c.batch s.at) (dwords_at c.batch s.at) s.base)))))
     by true b p q = end_way c s s.level refl (eqb-true _ _ p)
     by false true p q = start_way c s _ refl (eqb-true _ _ q)
     by false false p q = goes_on (eqb-false _ _ p) (eqb-false _ _ q)
 
 -- the way of a command that is taken
-pub taken_way : (c : Capture) (s : Cursor) {k : Command} {a : After} → step_of c s ≡ Taken k a → Way c s a
+pub taken_way : (c : Capture) (s : Cursor) {k : Command} {a : Option Cursor} → step_of c s ≡ Ok (k, a) → Way c s a
 taken_way c s e = rw (took c s e).move (way c s)
 
 -- A RETURN COMES BACK TO LEVEL 0, at the position that was kept.
-pub return_level : (c : Capture) (s t : Cursor) {k : Command} → step_of c s ≡ Taken k (To t) → row_at c.batch s.at ≡ end_row
+pub return_level : (c : Capture) (s t : Cursor) {k : Command} → step_of c s ≡ Ok (k, Some t) → row_at c.batch s.at ≡ end_row
     → (t.level ≡ First) × (s.level ≡ Second t.at)
-return_level c s t e r = by (To t) refl (taken_way c s e)
+return_level c s t e r = by (Some t) refl (taken_way c s e)
   where
-    by : (a : After) → a ≡ To t → Way c s a → (t.level ≡ First) × (s.level ≡ Second t.at)
+    by : (a : Option Cursor) → a ≡ Some t → Way c s a → (t.level ≡ First) × (s.level ≡ Second t.at)
     by a q (ends p l) = absurd (ends_nowhere q)
     by a q (returns p l) = (sym (ap (λ (u : Cursor). u.level) (same_cursor q)), l ∙ ap (λ (u : Cursor). Second u.at) (same_cursor q))
     by a q (jumps p b) = absurd (omega arith)
@@ -130,13 +127,13 @@ pub record Within (c : Capture) (s : Cursor) : Type 0 where
   pub position : s.at ≤ length c.batch
   pub kept : (back : ℕ) → s.level ≡ Second back → back ≤ length c.batch
 
-pub stays_within : (c : Capture) (s : Cursor) {k : Command} {t : Cursor} → Within c s → step_of c s ≡ Taken k (To t) → Within c t
-stays_within c s {k} {t} w e = by (To t) refl (taken_way c s e)
+pub stays_within : (c : Capture) (s : Cursor) {k : Command} {t : Cursor} → Within c s → step_of c s ≡ Ok (k, Some t) → Within c t
+stays_within c s {k} {t} w e = by (Some t) refl (taken_way c s e)
   where
     p : Passed c s
     p = passed c s (took c s e).passes
 
-    by : (a : After) → a ≡ To t → Way c s a → Within c t
+    by : (a : Option Cursor) → a ≡ Some t → Way c s a → Within c t
     by a q (ends r l) = absurd (ends_nowhere q)
     by a q (returns {back = back} r l) = rw (← same_cursor q) (record { position = w.kept back l; kept = λ b m. absurd (first_keeps_none m) })
     by a q (jumps r b) = rw (← same_cursor q) (record { position = omega (arith, target_in_batch c s p r); kept = w.kept })
@@ -148,5 +145,5 @@ pub always_within : (c : Capture) {s t : Cursor} {ks : List Command} → Within 
 always_within c w stays = w
 always_within c w (onward e l) = always_within c (stays_within c _ w e) l
 
-pub starts_within : (c : Capture) (base : Base) → Within c (start base)
+pub starts_within : (c : Capture) (base : Option ℕ) → Within c (start base)
 starts_within c base = record { position = omega arith; kept = λ back m. absurd (first_keeps_none m) }

@@ -1,5 +1,6 @@
 -- A range that fits lies in exactly one window, and no sum in it wraps or runs over the window's end.
 -- Assumes nothing.
+use Rattle.std.specs.Prelude.{Ok}
 use Prim.Native.Nat.{ℕ, zero, suc, ◌+◌, ◌%◌, ◌^◌, ◌≤◌, ◌<◌}
 use native.Mathlib.Nat.{le_of_suc-le-suc, not-suc-le-zero}
 use native.Mathlib.Omega.{arith}
@@ -13,7 +14,6 @@ use borrow.Author.Tests.{leb-true, ltb-true, lt-ltb, ltb-false, eqb-true, not-fa
 use Rattle.rules.specs.declared.Window.{Window}
 use Rattle.rules.specs.declared.Windows.{Windows}
 use Rattle.rules.specs.declared.Within.TheVariants.{BatchOnly, ScratchOnly, AnyWindow}
-use Rattle.rules.specs.declared.Verdict.TheVariants.{Pass}
 use Rattle.rules.specs.Words.{some, some_two}
 use Rattle.rules.specs.Windows.{window_limit, page_bytes, counts_wrong, unaligned, window, listed, end}
 use Rattle.rules.specs.Windows.{ends_too_high, share_byte, window_checks, Lengths, window_fault, holds, Inside, windows_within, fits}
@@ -95,7 +95,7 @@ pub record Sound (ws : List Window) : Type 0 where
   pub ends : (i : ℕ) → i < length ws → end (get_or ws i no_window) ≤ 2 ^ 48
   pub apart : some_two share_byte ws ≡ false
 
-pub sound : (l : Lengths) → window_fault l ≡ Pass → Sound (listed l.windows)
+pub sound : (l : Lengths) → window_fault l ≡ Ok tt → Sound (listed l.windows)
 unfolding window_fault window_checks
 sound l e =
     let p = all_pass l window_checks e in
@@ -110,7 +110,7 @@ pub record Counted (l : Lengths) : Type 0 where
   pub batch : l.batch ≤ window_limit
   pub state : l.state ≤ window_limit
 
-pub counted : (l : Lengths) → window_fault l ≡ Pass → Counted l
+pub counted : (l : Lengths) → window_fault l ≡ Ok tt → Counted l
 unfolding window_fault window_checks counts_wrong
 counted l e =
     let p = refuse_passes _ _ (all_pass l window_checks e).0 in

@@ -1,5 +1,6 @@
 -- A record names its command: every command of the walk fits a record, and is read back from it.
 -- Assumes nothing.
+use Rattle.std.specs.Prelude.{Ok, Err, Option, None, Some}
 use Prim.Native.Nat.{ℕ, zero, suc, ◌+◌, ◌*◌, ◌/◌, ◌%◌, ◌^◌, ◌≤◌, ◌<◌}
 use native.Mathlib.Nat.{div-add-mod', mul-le-mul_right}
 use native.Mathlib.Omega.{arith}
@@ -13,13 +14,8 @@ use Rattle.rules.specs.declared.Level.{Level}
 use Rattle.rules.specs.declared.Level.TheVariants.{First, Second}
 use Rattle.rules.specs.declared.Cursor.{Cursor}
 use Rattle.rules.specs.declared.Command.{Command}
-use Rattle.rules.specs.declared.Base.{Base}
-use Rattle.rules.specs.declared.After.{After}
-use Rattle.rules.specs.declared.After.TheVariants.{Ends, To}
-use Rattle.rules.specs.declared.Outcome.{Outcome}
-use Rattle.rules.specs.declared.Outcome.TheVariants.{Taken, Refused}
-use Rattle.rules.specs.declared.Verdict.{Verdict}
-use Rattle.rules.specs.declared.Verdict.TheVariants.{Pass, Fails}
+use Rattle.rules.specs.Step.{Outcome}
+use Rattle.rules.specs.Refusals.{Verdict}
 use Rattle.rules.specs.Words.{bit, field}
 use Rattle.rules.specs.Windows.{Capture, window_limit, lengths_of, window_fault}
 use Rattle.rules.specs.Commands.{Length, no_field, exactly, by_bit, groups, rows, row_count, the_row, dword_count, field_right, length_of, group_size, length_right}
@@ -77,7 +73,7 @@ level_fits First = omega arith
 level_fits (Second back) = omega arith
 
 -- every command of the walk fits a record
-pub fits_record : (c : Capture) (s : Cursor) {k : Command} {a : After} → length c.batch ≤ window_limit → step_of c s ≡ Taken k a
+pub fits_record : (c : Capture) (s : Cursor) {k : Command} {a : Option Cursor} → length c.batch ≤ window_limit → step_of c s ≡ Ok (k, a)
     → Recordable k
 unfolding command_at
 fits_record c s l e =
@@ -133,22 +129,22 @@ run_fits : (left m : ℕ) (c : Capture) (s : Cursor) (o : Outcome) → length c.
     → AllRecordable (commands_of (cut m (trace left c s o)))
 unfolding trace cut commands_of
 run_fits zero m c s o l e = tt
-run_fits (suc left) m c s (Refused f) l e = tt
-run_fits (suc left) zero c s (Taken k Ends) l e = tt
-run_fits (suc left) zero c s (Taken k (To t)) l e = tt
-run_fits (suc left) (suc m) c s (Taken k Ends) l e = (fits_record c s l e, tt)
-run_fits (suc left) (suc m) c s (Taken k (To t)) l e = (fits_record c s l e, run_fits left m c t (step_of c t) l refl)
+run_fits (suc left) m c s (Err f) l e = tt
+run_fits (suc left) zero c s (Ok (k, None)) l e = tt
+run_fits (suc left) zero c s (Ok (k, Some t)) l e = tt
+run_fits (suc left) (suc m) c s (Ok (k, None)) l e = (fits_record c s l e, tt)
+run_fits (suc left) (suc m) c s (Ok (k, Some t)) l e = (fits_record c s l e, run_fits left m c t (step_of c t) l refl)
 
 -- THE RECORDS OF A WALK NAME ITS COMMANDS
-pub walk_read_back : (base : Base) (c : Capture) (room : ℕ)
+pub walk_read_back : (base : Option ℕ) (c : Capture) (room : ℕ)
     → commands_in (words_of (commands_of (walk base c room))) ≡ commands_of (walk base c room)
 unfolding commands_of words_of commands_in
 walk_read_back base c room = by (window_fault (lengths_of c)) refl
   where
     by : (v : Verdict) → window_fault (lengths_of c) ≡ v
         → commands_in (words_of (commands_of (walk base c room))) ≡ commands_of (walk base c room)
-    by Pass e = rw (walk_sound base c room e) (all_read_back _ (run_fits budget room c (start base) (step_of c (start base)) (counted (lengths_of c) e).batch refl))
-    by (Fails f) e = rw (walk_unsound base c room e)
+    by (Ok _) e = rw (walk_sound base c room e) (all_read_back _ (run_fits budget room c (start base) (step_of c (start base)) (counted (lengths_of c) e).batch refl))
+    by (Err f) e = rw (walk_unsound base c room e)
 
 -- every command that an old listing names fits a record
 old_recordable : (words : List ℕ) → AllRecordable (old_commands_in words)

@@ -1,12 +1,12 @@
 -- What the searches of specs/Words find: the first place that a test finds, or that it finds none.
 -- Assumes nothing.
+use Rattle.std.specs.Prelude.{Some, None}
 use Prim.Native.Nat.{ℕ, zero, suc, ◌+◌, ◌≤◌, ◌<◌}
 use native.Mathlib.Omega.{arith}
 use native.Mathlib.Nat.{eq-or-lt_of_le}
 use mathlib.Core.Path.{◌≡◌, refl, sym, ap, ◌∙◌}
 use mathlib.Core.Bool.{Bool, true, false, ◌||◌, ◌&&◌}
 use mathlib.Core.Logic.{◌⊎◌, inl, inr, ⊎_elim}
-use Rattle.rules.specs.declared.Found.TheVariants.{At, Nothing}
 use Rattle.rules.specs.Words.{first_from}
 
 -- a test's two cases, with the equation
@@ -28,18 +28,18 @@ pub search_passes : (bad : ℕ → Bool) (k n : ℕ) → bad k ≡ false → fir
 unfolding first_from
 search_passes bad k n e = rw e
 
-pub search_stops : (bad : ℕ → Bool) (k n : ℕ) → bad k ≡ true → first_from bad k (suc n) ≡ At k
+pub search_stops : (bad : ℕ → Bool) (k n : ℕ) → bad k ≡ true → first_from bad k (suc n) ≡ Some k
 unfolding first_from
 search_stops bad k n e = rw e
 
-unlike : {k : ℕ} → At k ≡ Nothing → ⊥
+unlike : {k : ℕ} → Some k ≡ None → ⊥
 unlike e = let z : ◌≡◌ {A = ℕ} 0 1 = cc in omega arith
 
-same_place : {k i : ℕ} → At k ≡ At i → k ≡ i
+same_place : {k i : ℕ} → Some k ≡ Some i → k ≡ i
 same_place e = cc
 
 -- a search that finds nothing finds nothing at any place
-pub none_found : (bad : ℕ → Bool) (k n : ℕ) → first_from bad k n ≡ Nothing → (i : ℕ) → k ≤ i → i < k + n → bad i ≡ false
+pub none_found : (bad : ℕ → Bool) (k n : ℕ) → first_from bad k n ≡ None → (i : ℕ) → k ≤ i → i < k + n → bad i ≡ false
 none_found bad k zero e i h l = absurd (omega arith)
 none_found bad k (suc n) e i h l =
     ⊎_elim (λ p. absurd (unlike (sym (search_stops bad k n p) ∙ e)))
@@ -48,7 +48,7 @@ none_found bad k (suc n) e i h l =
     (λ m. none_found bad (k + 1) n (sym (search_passes bad k n p) ∙ e) i (omega arith) (omega arith)) (eq-or-lt_of_le h)) (either (bad k))
 
 -- and a search that finds a place finds the first
-pub first_found : (bad : ℕ → Bool) (k n : ℕ) {i : ℕ} → first_from bad k n ≡ At i → FirstAt bad k n i
+pub first_found : (bad : ℕ → Bool) (k n : ℕ) {i : ℕ} → first_from bad k n ≡ Some i → FirstAt bad k n i
 unfolding first_from
 first_found bad k zero e = absurd (unlike (sym e))
 first_found bad k (suc n) {i} e =
@@ -66,7 +66,7 @@ first_found bad k (suc n) {i} e =
     }) (either (bad k))
 
 -- and where the test finds no place of them, the search finds nothing
-pub finds_none : (bad : ℕ → Bool) (k n : ℕ) → ((i : ℕ) → k ≤ i → i < k + n → bad i ≡ false) → first_from bad k n ≡ Nothing
+pub finds_none : (bad : ℕ → Bool) (k n : ℕ) → ((i : ℕ) → k ≤ i → i < k + n → bad i ≡ false) → first_from bad k n ≡ None
 unfolding first_from
 finds_none bad k zero h = refl
 finds_none bad k (suc n) h =

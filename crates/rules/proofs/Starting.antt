@@ -1,5 +1,6 @@
 -- Request 5: a walk that starts with a base never gives 14; and a base at or above 2^48, where an empty state window may lie, reaches no structure.
 -- Assumes nothing.
+use Rattle.std.specs.Prelude.{Ok, Err, Option, None, Some}
 use Prim.Native.Nat.{ℕ, ◌+◌, ◌*◌, ◌^◌, ◌≤◌, ◌<◌}
 use native.Mathlib.Omega.{arith}
 use mathlib.Core.Path.{◌≡◌, refl, sym}
@@ -9,26 +10,18 @@ use mathlib.Core.Logic.{⊎_elim}
 use lib.ListN.{length, get_or}
 use lib.Dec.{lit<, leb, ltb, eqb}
 use borrow.Author.Tests.{eqb-false}
-use Rattle.rules.specs.declared.Base.{Base}
-use Rattle.rules.specs.declared.Base.TheVariants.{Unset, Set}
 use Rattle.rules.specs.declared.BaseChoice.{BaseChoice}
 use Rattle.rules.specs.declared.BaseChoice.TheVariants.{StateWindow, NoBase}
 use Rattle.rules.specs.declared.Cursor.{Cursor}
 use Rattle.rules.specs.declared.Command.{Command}
-use Rattle.rules.specs.declared.After.{After}
-use Rattle.rules.specs.declared.After.TheVariants.{To}
 use Rattle.rules.specs.declared.Fault.{Fault}
 use Rattle.rules.specs.declared.Kind.{Kind}
 use Rattle.rules.specs.declared.Kind.TheVariants.{Viewport, ColourCalc, Blend}
-use Rattle.rules.specs.declared.Outcome.TheVariants.{Taken}
-use Rattle.rules.specs.declared.Pointer.{Pointer}
-use Rattle.rules.specs.declared.Pointer.TheVariants.{NoPointer, PointsTo}
 use Rattle.rules.specs.declared.Reason.{Reason}
 use Rattle.rules.specs.declared.Reason.TheVariants.{WrongCounts, AddressUnaligned, EndsTooHigh, WindowsShare, RanOff, UnknownHeader, WrongLength}
 use Rattle.rules.specs.declared.Reason.TheVariants.{PastTheWindow, BitNotAllowed, NestedStart, ValueBroken, RangeOutside, BaseNeverSet}
 use Rattle.rules.specs.declared.Reason.TheVariants.{StructureNowhere, StructureBit, StructureValue, FileSize, FileDistance, BufferShort}
-use Rattle.rules.specs.declared.Verdict.{Verdict}
-use Rattle.rules.specs.declared.Verdict.TheVariants.{Pass, Fails}
+use Rattle.rules.specs.Refusals.{Verdict}
 use Rattle.rules.specs.declared.Window.{Window}
 use Rattle.rules.specs.Words.{bit, first_of, some, some_two}
 use Rattle.rules.specs.Refusals.{number_of, batch_window, fault, refuse_if, refuse_found, first_fault}
@@ -53,23 +46,23 @@ use Rattle.rules.proofs.Walking.{refusal}
 use Rattle.rules.proofs.Places.{given_fault, found_fault, AllSay, list_says}
 
 -- whether there is a base
-abbrev pub has_base : Base → Bool
-has_base Unset = false
-has_base (Set b) = true
+abbrev pub has_base : Option ℕ → Bool
+has_base None = false
+has_base (Some b) = true
 
 -- once there is a base there is one for good
-base_stays : (r : ℕ) (d : List ℕ) (base : Base) → has_base base ≡ true → has_base (base_after r d base) ≡ true
+base_stays : (r : ℕ) (d : List ℕ) (base : Option ℕ) → has_base base ≡ true → has_base (base_after r d base) ≡ true
 unfolding base_after
 base_stays r d base e = by (eqb r base_row && bit (get_or d 6 0) 0)
   where
-    by : (t : Bool) → has_base (cond t (Set (new_base d)) base) ≡ true
+    by : (t : Bool) → has_base (cond t (Some (new_base d)) base) ≡ true
     by true = refl
     by false = e
 
-step_keeps : (c : Capture) (s t : Cursor) {k : Command} → step_of c s ≡ Taken k (To t) → has_base s.base ≡ true → has_base t.base ≡ true
-step_keeps c s t e h = by (To t) refl (taken_way c s e)
+step_keeps : (c : Capture) (s t : Cursor) {k : Command} → step_of c s ≡ Ok (k, Some t) → has_base s.base ≡ true → has_base t.base ≡ true
+step_keeps c s t e h = by (Some t) refl (taken_way c s e)
   where
-    by : (a : After) → a ≡ To t → Way c s a → has_base t.base ≡ true
+    by : (a : Option Cursor) → a ≡ Some t → Way c s a → has_base t.base ≡ true
     by a q (ends r l) = absurd (ends_nowhere q)
     by a q (returns r l) = rw (← same_cursor q) h
     by a q (jumps r b) = rw (← same_cursor q) h
@@ -84,35 +77,35 @@ walk_keeps {c} {s} (onward {t = u} e rest) h = walk_keeps rest (step_keeps c s u
 abbrev pub Other : Fault → Type 0
 Other f = number_of f.reason ≡ 14 → ⊥
 
-other : (t : Bool) (g : Fault) → eqb (number_of g.reason) 14 ≡ false → (f : Fault) → refuse_if t g ≡ Fails f → Other f
+other : (t : Bool) (g : Fault) → eqb (number_of g.reason) 14 ≡ false → (f : Fault) → refuse_if t g ≡ Err f → Other f
 other t g e f q = rw (← (given_fault t q).1) (eqb-false (number_of g.reason) 14 e)
 
 found_other : (reason : Reason) (window from n : ℕ) (bad : ℕ → Bool) → eqb (number_of reason) 14 ≡ false → (f : Fault)
-    → refuse_found reason window from (first_of bad n) ≡ Fails f → Other f
+    → refuse_found reason window from (first_of bad n) ≡ Err f → Other f
 found_other reason window from n bad e f q = rw (← (found_fault reason window from n bad q).is) (eqb-false (number_of reason) 14 e)
 
 -- the checks of a structure, whatever is pointed to and whatever the base
-pointed_other : (check : Asked → Verdict) → ((a : Asked) (f : Fault) → check a ≡ Fails f → Other f) → (c : Capture) (at : ℕ) (p : Pointer) (base : Base)
-    (f : Fault) → pointed check c at p base ≡ Fails f → Other f
-pointed_other check o c at NoPointer base f e = absurd (fails_not_pass (sym e))
-pointed_other check o c at (PointsTo kind offset) Unset f e = absurd (fails_not_pass (sym e))
-pointed_other check o c at (PointsTo kind offset) (Set b) f e = o _ f e
+pointed_other : (check : Asked → Verdict) → ((a : Asked) (f : Fault) → check a ≡ Err f → Other f) → (c : Capture) (at : ℕ) (p : Option (Kind × ℕ)) (base : Option ℕ)
+    (f : Fault) → pointed check c at p base ≡ Err f → Other f
+pointed_other check o c at None base f e = absurd (fails_not_pass (sym e))
+pointed_other check o c at (Some (kind, offset)) None f e = absurd (fails_not_pass (sym e))
+pointed_other check o c at (Some (kind, offset)) (Some b) f e = o _ f e
 
 -- 14 itself is not given where there is a base
-base_other : (p : Pointer) (base : Base) → has_base base ≡ true → (g f : Fault) → refuse_if (base_missing p base) g ≡ Fails f → Other f
-base_other NoPointer base e g f q = absurd (fails_not_pass (sym q))
-base_other (PointsTo kind offset) Unset e g f q = absurd (never_both e refl)
-base_other (PointsTo kind offset) (Set b) e g f q = absurd (fails_not_pass (sym q))
+base_other : (p : Option (Kind × ℕ)) (base : Option ℕ) → has_base base ≡ true → (g f : Fault) → refuse_if (base_missing p base) g ≡ Err f → Other f
+base_other None base e g f q = absurd (fails_not_pass (sym q))
+base_other (Some (kind, offset)) None e g f q = absurd (never_both e refl)
+base_other (Some (kind, offset)) (Some b) e g f q = absurd (fails_not_pass (sym q))
 
-nowhere_other : (a : Asked) (f : Fault) → structure_nowhere a ≡ Fails f → Other f
+nowhere_other : (a : Asked) (f : Fault) → structure_nowhere a ≡ Err f → Other f
 unfolding structure_nowhere number_of
 nowhere_other a = other (nowhere a.held) (fault StructureNowhere batch_window a.pointer) refl
 
-bit_other : (a : Asked) (f : Fault) → structure_bit a ≡ Fails f → Other f
+bit_other : (a : Asked) (f : Fault) → structure_bit a ≡ Err f → Other f
 unfolding structure_bit number_of
 bit_other a = found_other StructureBit (held_window a.held) (held_from a.held) (layout_of a.kind).dwords (structure_bit_wrong a.kind a.dwords) refl
 
-value_other : (a : Asked) (f : Fault) → structure_value a ≡ Fails f → Other f
+value_other : (a : Asked) (f : Fault) → structure_value a ≡ Err f → Other f
 unfolding structure_value number_of
 value_other a = found_other StructureValue (held_window a.held) (held_from a.held) (layout_of a.kind).dwords (structure_value_wrong a.kind a.dwords) refl
 
@@ -177,7 +170,7 @@ window_checks_lem l = (
 )
 
 -- and so is every check of a capture file
-pub file_other : (o : Offer) (f : Fault) → first_fault file_checks o ≡ Fails f → Other f
+pub file_other : (o : Offer) (f : Fault) → first_fault file_checks o ≡ Err f → Other f
 unfolding file_checks number_of
 file_other o =
     list_says Other file_checks o (
@@ -189,7 +182,7 @@ file_other o =
     )
 
 -- 14 IS GIVEN ONLY WITHOUT A BASE
-pub no_fourteen : (base : Base) (c : Capture) (room : ℕ) {f : Fault} → has_base base ≡ true → end_of (walk base c room) ≡ Fails f
+pub no_fourteen : (base : Option ℕ) (c : Capture) (room : ℕ) {f : Fault} → has_base base ≡ true → end_of (walk base c room) ≡ Err f
     → number_of f.reason ≡ 14 → ⊥
 unfolding window_fault
 no_fourteen base c room {f} h e =
@@ -201,10 +194,10 @@ no_fourteen base c room {f} h e =
         list_says Other (checks (length commands) room) (here c w.cursor) all f (first_is w.first)
 
 -- "14 is given only under "none"": of the two choices
-pub only_under_none : (choice : BaseChoice) (c : Capture) (room : ℕ) {f : Fault} → end_of (walk (starting_base choice c.state_at) c room) ≡ Fails f
+pub only_under_none : (choice : BaseChoice) (c : Capture) (room : ℕ) {f : Fault} → end_of (walk (starting_base choice c.state_at) c room) ≡ Err f
     → number_of f.reason ≡ 14 → choice ≡ NoBase
 only_under_none NoBase c room e m = refl
-only_under_none StateWindow c room e m = absurd (no_fourteen (Set c.state_at) c room refl e m)
+only_under_none StateWindow c room e m = absurd (no_fourteen (Some c.state_at) c room refl e m)
 
 -- a structure has dwords
 has_dwords : (kind : Kind) → 0 < (layout_of kind).dwords
@@ -226,9 +219,9 @@ not_held w address n low high some = by (holds_dwords w address n) refl
         absurd (omega arith)
 
 -- AN EMPTY STATE WINDOW AT EXACTLY 2^48 IS THE BASE ALL THE SAME: each structure is then 15
-pub nowhere_above : (c : Capture) (s : Cursor) {b offset : ℕ} {kind : Kind} → window_fault (lengths_of c) ≡ Pass → s.base ≡ Set b → 2 ^ 48 ≤ b
-    → pointer_of (row_at c.batch s.at) (dwords_at c.batch s.at) ≡ PointsTo kind offset
-    → of_structure structure_nowhere (here c s) ≡ Fails (fault StructureNowhere batch_window (s.at + 1))
+pub nowhere_above : (c : Capture) (s : Cursor) {b offset : ℕ} {kind : Kind} → window_fault (lengths_of c) ≡ Ok tt → s.base ≡ Some b → 2 ^ 48 ≤ b
+    → pointer_of (row_at c.batch s.at) (dwords_at c.batch s.at) ≡ Some (kind, offset)
+    → of_structure structure_nowhere (here c s) ≡ Err (fault StructureNowhere batch_window (s.at + 1))
 unfolding structure_nowhere held_at windows_of
 nowhere_above c s {b} {offset} {kind} pass e high p =
     let w = sound (lengths_of c) pass in

@@ -1,5 +1,6 @@
 -- Laws of the writer: how many dwords a row has, what is written is read back, and any command is written back; and one answer only.
 -- Assumes nothing.
+use Rattle.std.specs.Prelude.{Ok, None}
 use Prim.Native.Nat.{ℕ, zero, suc, ◌+◌, ◌-◌, ◌*◌, ◌/◌, ◌%◌, ◌^◌, ◌≤◌, ◌<◌, min}
 use native.Mathlib.Nat.{div-add-mod', div-le_self, mul-le-mul_right, mod-lt, zero-div, min-le_left, min-le_right, min-eq_left}
 use native.Mathlib.Omega.{arith}
@@ -13,8 +14,6 @@ use lib.ListN.{length}
 use lib.Dec.{leb, eqb, lit<}
 use borrow.Author.Tests.{eqb-true, eqb-false, eq-eqb, ne_eqb, leb-true, leb-false, lt-leb, le-ltb, ltb-false, not-false}
 use Rattle.rules.specs.declared.Answer.{Answer}
-use Rattle.rules.specs.declared.Verdict.TheVariants.{Pass}
-use Rattle.rules.specs.declared.Found.TheVariants.{Nothing}
 use Rattle.rules.specs.Words.{bit, field, allowed, first_from, first_of}
 use Rattle.rules.specs.Refusals.{AllPass}
 use Rattle.rules.specs.Commands.{Length, no_field, exactly, by_bit, groups, row_count, rows, the_row, group_size, field_right, length_right, dword_count, row_of, length_of}
@@ -144,12 +143,12 @@ field_and_one (by_bit b f g) size free n t e = let s = some_dwords (by_bit b f g
 field_and_one (groups most) size free n t e = let s = some_dwords (groups most) size free n t e in omega arith
 
 -- a search finds nothing where no test does
-none_of_some : (bad : ℕ → Bool) (k n : ℕ) → some_from bad k n ≡ false → first_from bad k n ≡ Nothing
+none_of_some : (bad : ℕ → Bool) (k n : ℕ) → some_from bad k n ≡ false → first_from bad k n ≡ None
 unfolding some_from first_from
 none_of_some bad k zero e = refl
 none_of_some bad k (suc n) e = rw (some_left (bad k) _ e) (none_of_some bad (k + 1) n (some_right (bad k) _ e))
 
-some_of_none : (bad : ℕ → Bool) (k n : ℕ) → first_from bad k n ≡ Nothing → some_from bad k n ≡ false
+some_of_none : (bad : ℕ → Bool) (k n : ℕ) → first_from bad k n ≡ None → some_from bad k n ≡ false
 unfolding some_from
 some_of_none bad k zero e = refl
 some_of_none bad k (suc n) e =
@@ -235,7 +234,7 @@ field_counted r free n header h some e same =
 
 -- what is written
 
-module _ (d : Draft) (pass : write_verdict d ≡ Pass) where
+module _ (d : Draft) (pass : write_verdict d ≡ Ok tt) where
   passed : AllPass write_checks d
   passed = all_pass d write_checks pass
 
@@ -295,7 +294,7 @@ module _ (d : Draft) (pass : write_verdict d ≡ Pass) where
           (switch_agrees d.row row_known _ d.free own.under)
           ∙ count_known
 
-  pub all_kept : first_of (bit_wrong d.row (command_for d)) (1 + length d.dwords) ≡ Nothing
+  pub all_kept : first_of (bit_wrong d.row (command_for d)) (1 + length d.dwords) ≡ None
   unfolding command_for header_for
   all_kept =
       let e : 1 + length d.dwords ≡ suc (length d.dwords) = omega arith in
@@ -306,7 +305,7 @@ module _ (d : Draft) (pass : write_verdict d ≡ Pass) where
 -- a command that passes 7, 8 and 10, of a header and the dwords after it, as many as the header says
 module _ (header : ℕ) (dwords : List ℕ) (small : header < 2 ^ 32) (r : ℕ) (known : r < row_count) (row_is : row_of header ≡ r)
     (right : length_right r header ≡ true) (long : 1 + length dwords ≡ length_of r header)
-    (kept : first_of (bit_wrong r (header ∷ dwords)) (1 + length dwords) ≡ Nothing) where
+    (kept : first_of (bit_wrong r (header ∷ dwords)) (1 + length dwords) ≡ None) where
   bits_kept_lem : (i : ℕ) → i < 1 + length dwords → bit_wrong r (header ∷ dwords) i ≡ false
   bits_kept_lem i h = none_found (bit_wrong r (header ∷ dwords)) 0 (1 + length dwords) kept i (omega arith) (omega arith)
 
@@ -368,13 +367,13 @@ module _ (header : ℕ) (dwords : List ℕ) (small : header < 2 ^ 32) (r : ℕ) 
           ∙ right
       by (groups most) e right q = sym (counts_told (groups most) (group_size r) header freed (length dwords) refl (omega arith) (λ b f g z. absurd (never_switched refl z))) ∙ right
 
-  pub written_back : (room first : ℕ) → first + (1 + length dwords) ≤ room → write_verdict (draft r freed dwords room first) ≡ Pass
+  pub written_back : (room first : ℕ) → first + (1 + length dwords) ≤ room → write_verdict (draft r freed dwords room first) ≡ Ok tt
   unfolding write_checks row_unknown count_wrong bit_stray room_short command_for
   written_back room first fits =
       no_fault (draft r freed dwords room first) write_checks
       (rw (lt-leb row_count r known), (rw written_count, (rw (freed_kept, written_header, some_of_none _ 1 (length dwords) later), (rw (le-ltb room _ fits), tt))))
     where
-      later : first_from (bit_wrong r (header ∷ dwords)) 1 (length dwords) ≡ Nothing
+      later : first_from (bit_wrong r (header ∷ dwords)) 1 (length dwords) ≡ None
       later = finds_none (bit_wrong r (header ∷ dwords)) 1 (length dwords) (λ i from below. bits_kept_lem i (omega arith))
 
 -- one answer only

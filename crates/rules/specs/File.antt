@@ -1,13 +1,10 @@
 -- Document 01, "Capture file and printout": the reader, and the whole answer for a file.
-use Rattle.std.specs.Prelude.{ℕ, zero, suc, ◌+◌, ◌-◌, ◌*◌, ◌^◌, ◌≡◌, Bool, not, ◌&&◌, ◌||◌, List, [], ◌∷◌, ◌++◌, length, get_or, drop, ltb, eqb}
+use Rattle.std.specs.Prelude.{ℕ, zero, suc, ◌+◌, ◌-◌, ◌*◌, ◌^◌, ◌≡◌, Bool, not, ◌&&◌, ◌||◌, List, [], ◌∷◌, ◌++◌, length, get_or, drop, ltb, eqb, Ok, Err, Option, Result}
+use Rattle.rules.specs.declared.Reason.{Reason}
 use Rattle.rules.specs.declared.Contents.{Contents}
-use Rattle.rules.specs.declared.Opened.{Opened}
-use Rattle.rules.specs.declared.Opened.TheVariants.{Holds, NotRead}
-use Rattle.rules.specs.declared.Verdict.{Verdict}
-use Rattle.rules.specs.declared.Verdict.TheVariants.{Pass, Fails}
+use Rattle.rules.specs.Refusals.{Verdict}
 use Rattle.rules.specs.declared.Reason.TheVariants.{WrongCounts, FileSize, FileDistance, BufferShort}
 use Rattle.rules.specs.declared.Answer.{Answer}
-use Rattle.rules.specs.declared.Base.{Base}
 use Rattle.rules.specs.declared.BaseChoice.{BaseChoice}
 use Rattle.rules.specs.Refusals.{batch_window, fault, refuse_if, first_fault, Told, told}
 use Rattle.rules.specs.Windows.{Capture, window, counts_wrong}
@@ -102,27 +99,27 @@ contents_of t = record {
 }
 
 -- "Refusals in order": the first, or the contents
-abbrev pub opened_by : Verdict → Trailer → Opened
-opened_by Pass t = Holds (contents_of t)
-opened_by (Fails f) t = NotRead f.reason
+abbrev pub opened_by : Verdict → Trailer → Result Contents Reason
+opened_by (Ok _) t = Ok (contents_of t)
+opened_by (Err f) t = Err f.reason
 
 -- "Refusals in order": what the reader answers
-unfoldable pub opened_of : List ℕ → ℕ → ℕ → Opened
+unfoldable pub opened_of : List ℕ → ℕ → ℕ → Result Contents Reason
 opened_of file batch_room state_room =
     opened_by (first_fault file_checks (offer file batch_room state_room)) (trailer_of file)
 
 -- "place 0,0": what each case of the reader's answer says of the file
-unfoldable pub opened_verdict : Opened → Verdict
-opened_verdict (Holds contents) = Pass
-opened_verdict (NotRead reason) = Fails (fault reason batch_window 0)
+unfoldable pub opened_verdict : Result Contents Reason → Verdict
+opened_verdict (Ok contents) = Ok tt
+opened_verdict (Err reason) = Err (fault reason batch_window 0)
 
 -- "batch, state and scratch address .., scratch length, batch count, state count": the values of contents, and none with a refusal
-unfoldable pub numbers_of : Opened → List ℕ
-numbers_of (Holds t) = t.batch.at ∷ t.state.at ∷ t.scratch.at ∷ t.scratch.bytes ∷ t.batch.count ∷ t.state.count ∷ []
-numbers_of (NotRead reason) = []
+unfoldable pub numbers_of : Result Contents Reason → List ℕ
+numbers_of (Ok t) = t.batch.at ∷ t.state.at ∷ t.scratch.at ∷ t.scratch.bytes ∷ t.batch.count ∷ t.state.count ∷ []
+numbers_of (Err reason) = []
 
 -- "a definition gives this paper's number and values for each of the enum's cases"; "place 0,0, count 0"
-abbrev pub opened_told : Opened → Told ℕ
+abbrev pub opened_told : Result Contents Reason → Told ℕ
 opened_told opened = told (opened_verdict opened) (numbers_of opened)
 
 -- "batch dwords, state dwords": n dwords of the file, from a byte on
@@ -147,15 +144,15 @@ abbrev pub filled : List ℕ → List ℕ → List ℕ
 filled dwords old = dwords ++ drop (length dwords) old
 
 -- "All leave both buffers untouched"
-unfoldable pub filled_by : Opened → List ℕ → List ℕ → List ℕ
-filled_by (Holds contents) dwords old = filled dwords old
-filled_by (NotRead reason) dwords old = old
+unfoldable pub filled_by : Result Contents Reason → List ℕ → List ℕ → List ℕ
+filled_by (Ok contents) dwords old = filled dwords old
+filled_by (Err reason) dwords old = old
 
 -- "Each public call is promised completely". THE PROMISE of `capture::read`: its answer, what that tells, which is the first fault of 19, 20, 1
 -- and 21, or else the trailer's numbers, and every word of the two buffers as it returns
-pub record FileRead (file batch state : List ℕ) (opened : Opened) (new_batch new_state : List ℕ) : Type 0 where
+pub record FileRead (file batch state : List ℕ) (opened : Result Contents Reason) (new_batch new_state : List ℕ) : Type 0 where
   pub answers : opened ≡ opened_of file (length batch) (length state)
-  pub tells : opened_told opened ≡ told (first_fault file_checks (offer file (length batch) (length state))) (numbers_of (Holds (contents_of (trailer_of file))))
+  pub tells : opened_told opened ≡ told (first_fault file_checks (offer file (length batch) (length state))) (numbers_of (Ok (contents_of (trailer_of file))))
   pub batch_filled : new_batch ≡ filled_by (opened_of file (length batch) (length state)) (batch_dwords file) batch
   pub state_filled : new_state ≡ filled_by (opened_of file (length batch) (length state)) (state_dwords file) state
 
@@ -173,22 +170,22 @@ file_capture file =
     }
 
 -- "Capture file and printout": the run of a file, which is its refusal by the reader, or the walk of the capture that it holds
-abbrev pub run_by : Base → Opened → List ℕ → ℕ → Run
+abbrev pub run_by : Option ℕ → Result Contents Reason → List ℕ → ℕ → Run
 run_by base opened file room = unless (opened_verdict opened) (walk base (file_capture file) room)
 
 -- "Capture file and printout": the run of a file, by the room of the three lent buffers
-unfoldable pub file_run : Base → List ℕ → ℕ → ℕ → ℕ → Run
+unfoldable pub file_run : Option ℕ → List ℕ → ℕ → ℕ → ℕ → Run
 file_run base file batch_room state_room room = run_by base (opened_of file batch_room state_room) file room
 
 -- "Each public call is promised completely": the answer for a file, whose walk starts with this base, and every word of the three buffers as it returns
-pub record Judged (base : Base) (file batch state records : List ℕ) (answer : Answer) (new_batch new_state new_records : List ℕ) : Type 0 where
+pub record Judged (base : Option ℕ) (file batch state records : List ℕ) (answer : Answer) (new_batch new_state new_records : List ℕ) : Type 0 where
   pub answers : answer ≡ answer_of (file_run base file (length batch) (length state) (room_of (length records)))
   pub batch_filled : new_batch ≡ filled_by (opened_of file (length batch) (length state)) (batch_dwords file) batch
   pub state_filled : new_state ≡ filled_by (opened_of file (length batch) (length state)) (state_dwords file) state
   pub written : new_records ≡ written_of (file_run base file (length batch) (length state) (room_of (length records))) records
 
 -- Request 5: the base that is chosen, of the capture that a file holds
-abbrev pub file_base : BaseChoice → List ℕ → Base
+abbrev pub file_base : BaseChoice → List ℕ → Option ℕ
 file_base choice file = starting_base choice (file_capture file).state_at
 
 -- THE PROMISE of `capture::judge`, by the base that is chosen

@@ -1,10 +1,9 @@
 -- Request 7, turning old listings: "An old listing turned into the new form names the same commands."
-use Rattle.std.specs.Prelude.{ℕ, ◌≡◌, refl, Bool, not, List, [], ◌∷◌, ◌++◌, length, get_or, drop, ltb, eqb}
+use Rattle.std.specs.Prelude.{ℕ, ◌≡◌, refl, Bool, not, List, [], ◌∷◌, ◌++◌, length, get_or, drop, ltb, eqb, Ok, Err}
 use Rattle.rules.specs.declared.Command.{Command}
 use Rattle.rules.specs.declared.LongAnswer.{LongAnswer}
 use Rattle.rules.specs.declared.Reason.TheVariants.{BitNotAllowed, RecordsFull}
-use Rattle.rules.specs.declared.Verdict.{Verdict}
-use Rattle.rules.specs.declared.Verdict.TheVariants.{Pass, Fails}
+use Rattle.rules.specs.Refusals.{Verdict}
 use Rattle.rules.specs.Words.{field, first_of, first_from}
 use Rattle.rules.specs.Refusals.{number_of, batch_window, fault, refuse_if, refuse_found, tried, first_fault}
 use Rattle.rules.specs.Records.{first_word, second_word, words_of, words_for}
@@ -47,18 +46,18 @@ turn_verdict t = first_fault turn_checks t
 
 -- "both with count 0"; a success counts the records
 abbrev pub turn_count : Verdict → List ℕ → ℕ
-turn_count Pass old = length old
-turn_count (Fails f) old = 0
+turn_count (Ok _) old = length old
+turn_count (Err f) old = 0
 
 -- "The answer is reason (0 = accepted), window (0 batch, 1 state), index and count", with numbers of 64 bits: a listing may have more than 2^32 words
 abbrev pub long_answer : Verdict → ℕ → LongAnswer
-long_answer Pass count = record { reason = 0; window = 0; index = 0; count = count }
-long_answer (Fails f) count = record { reason = number_of f.reason; window = f.window; index = f.index; count = count }
+long_answer (Ok _) count = record { reason = 0; window = 0; index = 0; count = count }
+long_answer (Err f) count = record { reason = number_of f.reason; window = f.window; index = f.index; count = count }
 
 -- "An old listing turned into the new form": its records from word 0 on, and the other words as they were; a refusal has "nothing written"
 abbrev pub turned_by : Verdict → List ℕ → List ℕ → List ℕ
-turned_by Pass old before = words_of (old_commands_in old) ++ drop (words_for (length old)) before
-turned_by (Fails f) old before = before
+turned_by (Ok _) old before = words_of (old_commands_in old) ++ drop (words_for (length old)) before
+turned_by (Err f) old before = before
 
 -- THE PROMISE of `listing::turn`: its answer, and every word of the new buffer as it returns
 pub record Turned (old before : List ℕ) (answer : LongAnswer) (after : List ℕ) : Type 0 where
@@ -73,15 +72,15 @@ unfolding old_command_of old_commands_in word_stray listing_full turn_checks tri
 c7_turned = refl
 
 -- 10 goes before 18, also where only the last word has a bit
-pub stray_before_room : turn_verdict (turning (0x02030000 ∷ 0x01012004 ∷ []) 3) ≡ Fails (fault BitNotAllowed batch_window 1)
+pub stray_before_room : turn_verdict (turning (0x02030000 ∷ 0x01012004 ∷ []) 3) ≡ Err (fault BitNotAllowed batch_window 1)
 unfolding word_stray listing_full turn_checks tried first_from words_for
 stray_before_room = refl
 
-pub no_room_told : turn_verdict (turning (0x02030000 ∷ 0x01011004 ∷ []) 3) ≡ Fails (fault RecordsFull batch_window 0)
+pub no_room_told : turn_verdict (turning (0x02030000 ∷ 0x01011004 ∷ []) 3) ≡ Err (fault RecordsFull batch_window 0)
 unfolding word_stray listing_full turn_checks tried first_from words_for
 no_room_told = refl
 
 -- an empty listing fits an empty buffer
-pub nothing_to_turn : turn_verdict (turning [] 0) ≡ Pass
+pub nothing_to_turn : turn_verdict (turning [] 0) ≡ Ok tt
 unfolding word_stray listing_full turn_checks tried first_from words_for
 nothing_to_turn = refl

@@ -1,6 +1,5 @@
 -- Document 01, the records, as request 7 has them: "An index no longer fits the one-word record, so the new record has two words".
-use Rattle.std.specs.Prelude.{ℕ, ◌+◌, ◌*◌, ◌/◌, ◌^◌, ◌<◌, ◌≡◌, List, [], ◌∷◌, ◌++◌, length, drop}
-use Rattle.rules.specs.declared.Base.{Base}
+use Rattle.std.specs.Prelude.{ℕ, ◌+◌, ◌*◌, ◌/◌, ◌^◌, ◌<◌, ◌≡◌, List, [], ◌∷◌, ◌++◌, length, drop, Option}
 use Rattle.rules.specs.declared.BaseChoice.{BaseChoice}
 use Rattle.rules.specs.declared.Command.{Command}
 use Rattle.rules.specs.declared.Answer.{Answer}
@@ -54,7 +53,7 @@ written_of run old = words_of (commands_of run) ++ drop (length (words_of (comma
 
 -- "Each public call is promised completely: answer, records and every untouched word": an answer, and every word of the record buffer as it
 -- returns, by the walk of the capture from a starting base
-pub record Checked (base : Base) (c : Capture) (old : List ℕ) (answer : Answer) (new : List ℕ) : Type 0 where
+pub record Checked (base : Option ℕ) (c : Capture) (old : List ℕ) (answer : Answer) (new : List ℕ) : Type 0 where
   pub answers : answer ≡ answer_of (walk base c (room_of (length old)))
   pub written : new ≡ written_of (walk base c (room_of (length old))) old
 

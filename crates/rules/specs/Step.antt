@@ -1,22 +1,14 @@
 -- Document 01, the checks 5 to 18 of one command, in their order, and "The walk": where a command leads.
-use Rattle.std.specs.Prelude.{ℕ, ◌+◌, ◌*◌, ◌^◌, Bool, true, false, cond, not, ◌&&◌, List, [], ◌∷◌, ◌++◌, map, length, get_or, take, drop, leb, ltb, eqb}
+use Rattle.std.specs.Prelude.{ℕ, ◌+◌, ◌*◌, ◌^◌, Bool, true, false, cond, not, ◌&&◌, List, [], ◌∷◌, ◌++◌, map, length, get_or, take, drop, leb, ltb, eqb, Result, Ok, Err, Option, None, Some}
+use Rattle.rules.specs.declared.Kind.{Kind}
 use Rattle.rules.specs.declared.Level.{Level}
 use Rattle.rules.specs.declared.Level.TheVariants.{First, Second}
-use Rattle.rules.specs.declared.Base.{Base}
-use Rattle.rules.specs.declared.Base.TheVariants.{Unset, Set}
 use Rattle.rules.specs.declared.Cursor.{Cursor}
 use Rattle.rules.specs.declared.Command.{Command}
-use Rattle.rules.specs.declared.After.{After}
-use Rattle.rules.specs.declared.After.TheVariants.{Ends, To}
-use Rattle.rules.specs.declared.Outcome.{Outcome}
-use Rattle.rules.specs.declared.Outcome.TheVariants.{Taken, Refused}
 use Rattle.rules.specs.declared.Kind.TheVariants.{Viewport, ColourCalc, Blend}
-use Rattle.rules.specs.declared.Pointer.{Pointer}
-use Rattle.rules.specs.declared.Pointer.TheVariants.{NoPointer, PointsTo}
 use Rattle.rules.specs.declared.Reason.{Reason}
 use Rattle.rules.specs.declared.Fault.{Fault}
-use Rattle.rules.specs.declared.Verdict.{Verdict}
-use Rattle.rules.specs.declared.Verdict.TheVariants.{Pass, Fails}
+use Rattle.rules.specs.Refusals.{Verdict}
 use Rattle.rules.specs.declared.Reason.TheVariants.{BudgetSpent, RanOff, UnknownHeader, WrongLength, PastTheWindow, BitNotAllowed, NestedStart, ValueBroken}
 use Rattle.rules.specs.declared.Reason.TheVariants.{RangeOutside, BaseNeverSet, RecordsFull}
 use Rattle.rules.specs.Words.{bit, field, cleared, first_of}
@@ -28,6 +20,14 @@ use Rattle.rules.specs.Uses.{address_at}
 use Rattle.rules.specs.Values.{value_wrong}
 use Rattle.rules.specs.Addresses.{range_wrong}
 use Rattle.rules.specs.Structures.{Asked, asked_at, structure_checks}
+
+-- the "dynamic state base", where it was set
+abbrev pub Base : Type 0
+Base = Option ℕ
+
+-- what one step gives: the command that it takes and the cursor to which that leads, none where the run ends; or the fault
+abbrev pub Outcome : Type 0
+Outcome = Result (Command × Option Cursor) Fault
 
 -- "tried per command": where a check is asked, which is in a capture, and where the walk stands in it
 pub record Here : Type 0 where
@@ -56,23 +56,23 @@ dwords_at batch at = take (length_at batch at) (drop at batch)
 
 -- "Rows 14, and 15 with bit 0 set, read a structure"; "Address is dynamic base plus pointer (low bits masked off)". Request 1, of row 17: "bit 0 as in
 -- row 15"
-unfoldable pub pointer_of : ℕ → List ℕ → Pointer
+unfoldable pub pointer_of : ℕ → List ℕ → Option (Kind × ℕ)
 pointer_of r d =
-    cond (eqb r viewport_row) (PointsTo Viewport (cleared (get_or d 1 0) 5))
-    (cond (eqb r colour_row && bit (get_or d 1 0) 0) (PointsTo ColourCalc (cleared (get_or d 1 0) 6))
-    (cond (eqb r blend_row && bit (get_or d 1 0) 0) (PointsTo Blend (cleared (get_or d 1 0) 6)) NoPointer))
+    cond (eqb r viewport_row) (Some (Viewport, cleared (get_or d 1 0) 5))
+    (cond (eqb r colour_row && bit (get_or d 1 0) 0) (Some (ColourCalc, cleared (get_or d 1 0) 6))
+    (cond (eqb r blend_row && bit (get_or d 1 0) 0) (Some (Blend, cleared (get_or d 1 0) 6)) None))
 
 -- 14: "dynamic state base never set", of a command that reads a structure
-abbrev pub base_missing : Pointer → Base → Bool
-base_missing NoPointer base = false
-base_missing (PointsTo kind offset) Unset = true
-base_missing (PointsTo kind offset) (Set b) = false
+abbrev pub base_missing : Option (Kind × ℕ) → Option ℕ → Bool
+base_missing None base = false
+base_missing (Some (kind, offset)) None = true
+base_missing (Some (kind, offset)) (Some b) = false
 
 -- a check of the structure that a command reads; "Address is dynamic base plus pointer .., by the exact sum"
-abbrev pub pointed : (Asked → Verdict) → Capture → ℕ → Pointer → Base → Verdict
-pointed check c pointer NoPointer base = Pass
-pointed check c pointer (PointsTo kind offset) Unset = Pass
-pointed check c pointer (PointsTo kind offset) (Set b) =
+abbrev pub pointed : (Asked → Verdict) → Capture → ℕ → Option (Kind × ℕ) → Option ℕ → Verdict
+pointed check c pointer None base = Ok tt
+pointed check c pointer (Some (kind, offset)) None = Ok tt
+pointed check c pointer (Some (kind, offset)) (Some b) =
     check (asked_at c.batch c.batch_at c.state c.state_at kind (b + offset) pointer)
 
 -- 11: "batch start while in a second-level batch"
@@ -189,13 +189,13 @@ unfoldable pub checks : ℕ → ℕ → List (Here → Verdict)
 checks done room = budget_spent done ∷ (step_checks ++ (records_full done room ∷ []))
 
 -- "Start at dword 0, level 0, no dynamic base": a position, a level and a base
-abbrev pub cursor : ℕ → Level → Base → Cursor
+abbrev pub cursor : ℕ → Level → Option ℕ → Cursor
 cursor at level base = record { at = at; level = level; base = base }
 
 -- "A batch end at level 0 ends the run; at level 1 it goes to the kept position, level 0."
-unfoldable pub after_end : Level → Base → After
-after_end First base = Ends
-after_end (Second back) base = To (cursor back First base)
+unfoldable pub after_end : Level → Option ℕ → Option Cursor
+after_end First base = None
+after_end (Second back) base = Some (cursor back First base)
 
 -- "A start with bit 22 clear goes to its target. With bit 22 set it keeps the position after itself and goes to its target at level 1."
 abbrev pub level_after_start : ℕ → ℕ → Level → Level
@@ -206,16 +206,16 @@ abbrev pub new_base : List ℕ → ℕ
 new_base d = 2 ^ 12 * field (get_or d 6 0) 31 12 + 2 ^ 32 * field (get_or d 7 0) 15 0
 
 -- "the dynamic base becomes ..", in row 9 "If dword 6 bit 0 is set"
-unfoldable pub base_after : ℕ → List ℕ → Base → Base
-base_after r d base = cond (eqb r base_row && bit (get_or d 6 0) 0) (Set (new_base d)) base
+unfoldable pub base_after : ℕ → List ℕ → Option ℕ → Option ℕ
+base_after r d base = cond (eqb r base_row && bit (get_or d 6 0) 0) (Some (new_base d)) base
 
 -- where a command leads: an end, a start, and "All others go on by their length"
-unfoldable pub move_of : Capture → Cursor → ℕ → List ℕ → ℕ → After
+unfoldable pub move_of : Capture → Cursor → ℕ → List ℕ → ℕ → Option Cursor
 move_of c s r d next =
     cond (eqb r end_row) (after_end s.level s.base)
     (cond (eqb r start_row)
-    (To (cursor (dword_of (windows_of c).batch (address_at d 1)) (level_after_start (get_or d 0 0) next s.level) s.base))
-    (To (cursor next s.level (base_after r d s.base))))
+    (Some (cursor (dword_of (windows_of c).batch (address_at d 1)) (level_after_start (get_or d 0 0) next s.level) s.base))
+    (Some (cursor next s.level (base_after r d s.base))))
 
 -- "level 0", "level 1"
 abbrev pub level_number : Level → ℕ
@@ -228,9 +228,9 @@ command_at batch s =
     record { index = s.at; level = level_number s.level; row = row_at batch s.at; length = length_at batch s.at }
 
 -- "Count is the number of commands accepted": a command is, when no check fails
-abbrev pub outcome_of : Verdict → Command → After → Outcome
-outcome_of Pass command after = Taken command after
-outcome_of (Fails f) command after = Refused f
+abbrev pub outcome_of : Verdict → Command → Option Cursor → Outcome
+outcome_of (Ok _) command after = Ok (command, after)
+outcome_of (Err f) command after = Err f
 
 -- "tried per command": one step, which is the first fault among 6 to 17, or the command and where it leads
 unfoldable pub step_of : Capture → Cursor → Outcome

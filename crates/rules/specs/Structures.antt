@@ -1,15 +1,15 @@
 -- Document 01, "State structures", and the blend state of request 1.
-use Rattle.std.specs.Prelude.{ℕ, ◌≡◌, Bool, true, false, not, ◌&&◌, ◌||◌, List, [], ◌∷◌, length, get_or, leb, eqb, Float}
+use Rattle.std.specs.Prelude.{ℕ, ◌≡◌, Bool, true, false, not, ◌&&◌, ◌||◌, List, [], ◌∷◌, length, get_or, leb, eqb, Float, Ok, Err, Result, Option, Some, None}
 use Rattle.std.specs.Float.Ieee.{of_bits, nan_bits, le}
 use Rattle.std.specs.Float.{binary32}
+use Rattle.rules.specs.declared.Fault.{Fault}
 use Rattle.rules.specs.declared.Held.{Held}
-use Rattle.rules.specs.declared.Held.TheVariants.{InBatch, InState, Nowhere}
+use Rattle.rules.specs.declared.Held.TheVariants.{InBatch, InState}
 use Rattle.rules.specs.declared.Kind.{Kind}
 use Rattle.rules.specs.declared.Kind.TheVariants.{Viewport, ColourCalc, Blend}
 use Rattle.rules.specs.declared.Reading.{Reading}
 use Rattle.rules.specs.declared.Reading.TheVariants.{Depths, Colour, Blending, Unreadable}
-use Rattle.rules.specs.declared.Verdict.{Verdict}
-use Rattle.rules.specs.declared.Verdict.TheVariants.{Pass, Fails}
+use Rattle.rules.specs.Refusals.{Verdict}
 use Rattle.rules.specs.declared.Reason.TheVariants.{StructureNowhere, StructureBit, StructureValue}
 use Rattle.rules.specs.Words.{allowed, bit, field, first_of, in_group}
 use Rattle.rules.specs.Refusals.{batch_window, state_window, fault, refuse_if, refuse_found, first_fault, Told, told}
@@ -89,7 +89,7 @@ structure_value_wrong Blend d k = blend_wrong d k
 -- "read a structure": which one, where it lies, its dwords, and the "pointer dword" of the batch
 pub record Asked : Type 0 where
   pub kind : Kind
-  pub held : Held
+  pub held : Option Held
   pub dwords : List ℕ
   pub pointer : ℕ
 
@@ -97,26 +97,25 @@ pub record Asked : Type 0 where
 abbrev pub asked_at : List ℕ → ℕ → List ℕ → ℕ → Kind → ℕ → ℕ → Asked
 asked_at batch batch_at state state_at kind address pointer =
     let n : ℕ = (layout_of kind).dwords in
-    let held : Held = held_at (lent batch_at (length batch)) (lent state_at (length state)) address n in
+    let held : Option Held = held_at (lent batch_at (length batch)) (lent state_at (length state)) address n in
     record { kind = kind; held = held; dwords = part_of batch state n held; pointer = pointer }
 
 -- "structure in neither lent window"
-abbrev pub nowhere : Held → Bool
-nowhere (InBatch i) = false
-nowhere (InState i) = false
-nowhere Nowhere = true
+abbrev pub nowhere : Option Held → Bool
+nowhere (Some held) = false
+nowhere None = true
 
 -- the place of 16 and 17: "dword in its window"
-abbrev pub held_window : Held → ℕ
-held_window (InBatch i) = batch_window
-held_window (InState i) = state_window
-held_window Nowhere = batch_window
+abbrev pub held_window : Option Held → ℕ
+held_window (Some (InBatch i)) = batch_window
+held_window (Some (InState i)) = state_window
+held_window None = batch_window
 
 -- "dword in its window": the one at which the structure starts there
-abbrev pub held_from : Held → ℕ
-held_from (InBatch i) = i
-held_from (InState i) = i
-held_from Nowhere = 0
+abbrev pub held_from : Option Held → ℕ
+held_from (Some (InBatch i)) = i
+held_from (Some (InState i)) = i
+held_from None = 0
 
 -- 15: "structure in neither lent window", at the "pointer dword"
 unfoldable pub structure_nowhere : Asked → Verdict
@@ -146,8 +145,8 @@ values_of Blend d = Blending
 
 -- "or its refusal"
 abbrev pub reading_of : Verdict → Kind → List ℕ → Reading
-reading_of Pass kind d = values_of kind d
-reading_of (Fails f) kind d = Unreadable f
+reading_of (Ok _) kind d = values_of kind d
+reading_of (Err f) kind d = Unreadable f
 
 -- "A structure read gives back a depth range with two floats, a colour state with four, or its refusal."
 unfoldable pub read_at : List ℕ → ℕ → List ℕ → ℕ → Kind → ℕ → ℕ → Reading
@@ -157,10 +156,10 @@ read_at batch batch_at state state_at kind address pointer =
 
 -- "or its refusal": what each case of a read says of the capture, the refusal with its reason and place
 unfoldable pub verdict_of : Reading → Verdict
-verdict_of (Depths a b) = Pass
-verdict_of (Colour r g b a) = Pass
-verdict_of Blending = Pass
-verdict_of (Unreadable f) = Fails f
+verdict_of (Depths a b) = Ok tt
+verdict_of (Colour r g b a) = Ok tt
+verdict_of Blending = Ok tt
+verdict_of (Unreadable f) = Err f
 
 -- "with two floats", "with four": the values that each case gives back, and none with a refusal
 unfoldable pub floats_of : Reading → List Float

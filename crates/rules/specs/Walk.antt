@@ -1,17 +1,12 @@
 -- Document 01, "The walk": the trace of a run with its budget, its cut by the room for records, and the answer.
-use Rattle.std.specs.Prelude.{ℕ, zero, suc, ◌<◌, ◌≡◌, refl, List, [], ◌∷◌, ◌++◌, length}
+use Rattle.std.specs.Prelude.{ℕ, zero, suc, ◌<◌, ◌≡◌, refl, List, [], ◌∷◌, ◌++◌, length, Ok, Err, Option, None, Some}
 use Rattle.rules.specs.declared.Level.TheVariants.{First}
-use Rattle.rules.specs.declared.Base.{Base}
-use Rattle.rules.specs.declared.Base.TheVariants.{Unset, Set}
 use Rattle.rules.specs.declared.BaseChoice.{BaseChoice}
 use Rattle.rules.specs.declared.BaseChoice.TheVariants.{StateWindow, NoBase}
 use Rattle.rules.specs.declared.Cursor.{Cursor}
 use Rattle.rules.specs.declared.Command.{Command}
-use Rattle.rules.specs.declared.After.TheVariants.{Ends, To}
-use Rattle.rules.specs.declared.Outcome.{Outcome}
-use Rattle.rules.specs.declared.Outcome.TheVariants.{Taken, Refused}
-use Rattle.rules.specs.declared.Verdict.{Verdict}
-use Rattle.rules.specs.declared.Verdict.TheVariants.{Pass, Fails}
+use Rattle.rules.specs.Step.{Outcome}
+use Rattle.rules.specs.Refusals.{Verdict}
 use Rattle.rules.specs.declared.Fault.{Fault}
 use Rattle.rules.specs.declared.Answer.{Answer}
 use Rattle.rules.specs.Refusals.{AllPass, FirstFault, answer_with}
@@ -26,26 +21,26 @@ pub data Run : Type 0 where
 -- "The walk": the run from a cursor on, where `o` is the step there, with so many commands left of the budget; 5 is "65,536 commands done, run
 -- not ended". The rest of a run is bound by `let`, so that whoever computes a run computes no more of it than is asked for.
 unfoldable pub trace : ℕ → Capture → Cursor → Outcome → Run
-trace zero c s o = ended (Fails (spent_at s.at))
-trace (suc left) c s (Refused f) = ended (Fails f)
-trace (suc left) c s (Taken command Ends) = then command (ended Pass)
-trace (suc left) c s (Taken command (To t)) = let rest : Run = trace left c t (step_of c t) in then command rest
+trace zero c s o = ended (Err (spent_at s.at))
+trace (suc left) c s (Err f) = ended (Err f)
+trace (suc left) c s (Ok (command, None)) = then command (ended (Ok tt))
+trace (suc left) c s (Ok (command, Some t)) = let rest : Run = trace left c t (step_of c t) in then command rest
 
 -- 18, "record buffer full", at the header of the first command for which there is no room
 unfoldable pub cut : ℕ → Run → Run
 cut room (ended v) = ended v
-cut zero (then command rest) = ended (Fails (full_at command.index))
+cut zero (then command rest) = ended (Err (full_at command.index))
 cut (suc room) (then command rest) = then command (cut room rest)
 
 -- "Start at dword 0, level 0, no dynamic base"; the starting base is a parameter
-abbrev pub start : Base → Cursor
+abbrev pub start : Option ℕ → Cursor
 start base = cursor 0 First base
 
 -- Request 5: "The default at the start of a walk becomes the state window's address, and a caller may choose "none" instead." The address is the
 -- base whether the window is empty or not.
-abbrev pub starting_base : BaseChoice → ℕ → Base
-starting_base StateWindow state_at = Set state_at
-starting_base NoBase state_at = Unset
+abbrev pub starting_base : BaseChoice → ℕ → Option ℕ
+starting_base StateWindow state_at = Some state_at
+starting_base NoBase state_at = None
 
 -- "The walk", from a cursor on, its first step included
 abbrev pub trace_from : ℕ → Capture → Cursor → Run
@@ -53,18 +48,18 @@ trace_from left c s = trace left c s (step_of c s)
 
 -- "1 to 4 precede the walk, have count 0 and write nothing."
 abbrev pub unless : Verdict → Run → Run
-unless Pass run = run
-unless (Fails f) run = ended (Fails f)
+unless (Ok _) run = run
+unless (Err f) run = ended (Err f)
 
 -- "The walk" of a capture, with room for so many records
-unfoldable pub walk : Base → Capture → ℕ → Run
+unfoldable pub walk : Option ℕ → Capture → ℕ → Run
 walk base c room = unless (window_fault (lengths_of c)) (cut room (trace_from budget c (start base)))
 
 -- "goes to its target", "go on by their length": from the cursor s the commands are taken, one after the other, and then the walk stands at the
 -- last cursor
 pub data Leads (c : Capture) : Cursor → List Command → Cursor → Type 0 where
   stays : {s : Cursor} → Leads c s [] s
-  onward : {s t u : Cursor} {command : Command} {commands : List Command} → step_of c s ≡ Taken command (To t) → Leads c t commands u → Leads c s (command ∷ commands) u
+  onward : {s t u : Cursor} {command : Command} {commands : List Command} → step_of c s ≡ Ok (command, Some t) → Leads c t commands u → Leads c s (command ∷ commands) u
 
 -- "commands accepted", in order
 unfoldable pub commands_of : Run → List Command
@@ -90,22 +85,22 @@ unfolding cut end_of command_at records_full
 records_full_told c s rest = refl
 
 -- "Given exactly when", for acceptance: the windows are sound, and every check 5 to 18 passes at every command that the walk comes to
-pub record NoFault (base : Base) (c : Capture) (room : ℕ) : Type 0 where
+pub record NoFault (base : Option ℕ) (c : Capture) (room : ℕ) : Type 0 where
   pub sound : AllPass window_checks (lengths_of c)
   pub passes : (ks : List Command) (s : Cursor) → Leads c (start base) ks s → AllPass (checks (length ks) room) (here c s)
 
 -- "A batch end at level 0 ends the run": the commands lead to one, which is the last of them
-pub record Complete (base : Base) (c : Capture) (commands : List Command) : Type 0 where
+pub record Complete (base : Option ℕ) (c : Capture) (commands : List Command) : Type 0 where
   pub before : List Command
   pub last : Command
   pub cursor : Cursor
   pub reached : Leads c (start base) before cursor
-  pub ends : step_of c cursor ≡ Taken last Ends
+  pub ends : step_of c cursor ≡ Ok (last, None)
   pub all : commands ≡ before ++ (last ∷ [])
 
 -- "5 to 18 are tried per command in this order": the walk's first fault. Exactly these commands lead to a cursor where it is the first in the
 -- order of checks, and every check passes at each command before it.
-pub record WalkFault (base : Base) (c : Capture) (room : ℕ) (commands : List Command) (f : Fault) : Type 0 where
+pub record WalkFault (base : Option ℕ) (c : Capture) (room : ℕ) (commands : List Command) (f : Fault) : Type 0 where
   pub sound : AllPass window_checks (lengths_of c)
   pub cursor : Cursor
   pub reached : Leads c (start base) commands cursor

@@ -1,12 +1,12 @@
 -- Document 01, "Windows", and the refusals 1 to 4, which precede the walk.
-use Rattle.std.specs.Prelude.{ℕ, ◌+◌, ◌-◌, ◌*◌, ◌/◌, ◌%◌, ◌^◌, ◌≤◌, Bool, cond, not, ◌&&◌, ◌||◌, List, [], ◌∷◌, length, take, drop, leb, ltb, eqb}
+use Rattle.std.specs.Prelude.{ℕ, ◌+◌, ◌-◌, ◌*◌, ◌/◌, ◌%◌, ◌^◌, ◌≤◌, Bool, cond, not, ◌&&◌, ◌||◌, List, [], ◌∷◌, length, take, drop, leb, ltb, eqb, Option, Some, None}
 use Rattle.rules.specs.declared.Window.{Window}
 use Rattle.rules.specs.declared.Windows.{Windows}
 use Rattle.rules.specs.declared.Within.{Within}
 use Rattle.rules.specs.declared.Within.TheVariants.{BatchOnly, ScratchOnly, AnyWindow}
 use Rattle.rules.specs.declared.Held.{Held}
-use Rattle.rules.specs.declared.Held.TheVariants.{InBatch, InState, Nowhere}
-use Rattle.rules.specs.declared.Verdict.{Verdict}
+use Rattle.rules.specs.declared.Held.TheVariants.{InBatch, InState}
+use Rattle.rules.specs.Refusals.{Verdict}
 use Rattle.rules.specs.declared.Reason.TheVariants.{WrongCounts, AddressUnaligned, EndsTooHigh, WindowsShare}
 use Rattle.rules.specs.Words.{some, some_two}
 use Rattle.rules.specs.Refusals.{batch_window, fault, refuse_if, first_fault}
@@ -121,13 +121,13 @@ abbrev pub dword_of : Window → ℕ → ℕ
 dword_of w address = (address - w.at) / 4
 
 -- "Structures may lie in either lent window": which of the two holds n dwords at an address, and at which dword; the batch is asked first
-unfoldable pub held_at : Window → Window → ℕ → ℕ → Held
+unfoldable pub held_at : Window → Window → ℕ → ℕ → Option Held
 held_at batch state address n =
-    cond (holds_dwords batch address n) (InBatch (dword_of batch address))
-    (cond (holds_dwords state address n) (InState (dword_of state address)) Nowhere)
+    cond (holds_dwords batch address n) (Some (InBatch (dword_of batch address)))
+    (cond (holds_dwords state address n) (Some (InState (dword_of state address))) None)
 
 -- "the lookup returns the structure's own dwords as a part of whichever of the two lent windows holds them, or an empty part if neither does"
-unfoldable pub part_of : List ℕ → List ℕ → ℕ → Held → List ℕ
-part_of batch state n (InBatch i) = take n (drop i batch)
-part_of batch state n (InState i) = take n (drop i state)
-part_of batch state n Nowhere = []
+unfoldable pub part_of : List ℕ → List ℕ → ℕ → Option Held → List ℕ
+part_of batch state n (Some (InBatch i)) = take n (drop i batch)
+part_of batch state n (Some (InState i)) = take n (drop i state)
+part_of batch state n None = []

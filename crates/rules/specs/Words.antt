@@ -1,8 +1,6 @@
 -- Words, their bits, and searches: the few words that every later page is written in.
-use Rattle.std.specs.Prelude.{ℕ, zero, suc, ◌+◌, ◌-◌, ◌*◌, ◌/◌, ◌%◌, ◌^◌, Bool, false, cond, ◌||◌, List, [], ◌∷◌, eqb}
+use Rattle.std.specs.Prelude.{ℕ, zero, suc, ◌+◌, ◌-◌, ◌*◌, ◌/◌, ◌%◌, ◌^◌, Bool, false, cond, ◌||◌, List, [], ◌∷◌, eqb, Option, Some, None}
 use Rattle.std.specs.Int.Bits.{bit_and}
-use Rattle.rules.specs.declared.Found.{Found}
-use Rattle.rules.specs.declared.Found.TheVariants.{At, Nothing}
 
 -- "bit 8 set", "header bit 10": bit n of the word w, bit 0 being the lowest
 abbrev pub bit : ℕ → ℕ → Bool
@@ -31,12 +29,12 @@ some_two p [] = false
 some_two p (x ∷ xs) = some (p x) xs || some_two p xs
 
 -- "first such dword": the first of the n numbers from k on that the test finds
-unfoldable pub first_from : (ℕ → Bool) → ℕ → ℕ → Found
-first_from bad k zero = Nothing
-first_from bad k (suc n) = let later : Found = first_from bad (k + 1) n in cond (bad k) (At k) later
+unfoldable pub first_from : (ℕ → Bool) → ℕ → ℕ → Option ℕ
+first_from bad k zero = None
+first_from bad k (suc n) = let later : Option ℕ = first_from bad (k + 1) n in cond (bad k) (Some k) later
 
 -- "inside one number, the lower dword goes first": the first of the dwords 0 to n - 1 that the test finds
-abbrev pub first_of : (ℕ → Bool) → ℕ → Found
+abbrev pub first_of : (ℕ → Bool) → ℕ → Option ℕ
 first_of bad n = first_from bad 0 n
 
 -- "repeating groups give one group": which dword of its group the dword k is, where one dword leads and groups of `size` follow: 0 for the

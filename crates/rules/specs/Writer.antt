@@ -1,8 +1,7 @@
 -- Request 4, the writer of commands: what it refuses, what it answers, and what it leaves in the lent buffer. The quoted words are the request's.
-use Rattle.std.specs.Prelude.{ℕ, zero, suc, ◌+◌, ◌-◌, ◌/◌, ◌%◌, ◌≡◌, Bool, false, cond, not, ◌&&◌, ◌||◌, List, [], ◌∷◌, ◌++◌, length, take, drop, leb, ltb, eqb}
+use Rattle.std.specs.Prelude.{ℕ, zero, suc, ◌+◌, ◌-◌, ◌/◌, ◌%◌, ◌≡◌, Bool, false, cond, not, ◌&&◌, ◌||◌, List, [], ◌∷◌, ◌++◌, length, take, drop, leb, ltb, eqb, Ok, Err}
 use Rattle.rules.specs.declared.Reason.TheVariants.{UnknownHeader, WrongLength, BitNotAllowed, NoRoom}
-use Rattle.rules.specs.declared.Verdict.{Verdict}
-use Rattle.rules.specs.declared.Verdict.TheVariants.{Pass, Fails}
+use Rattle.rules.specs.Refusals.{Verdict}
 use Rattle.rules.specs.declared.Answer.{Answer}
 use Rattle.rules.specs.Words.{bit, allowed}
 use Rattle.rules.specs.Refusals.{batch_window, fault, refuse_if, first_fault, answer_with}
@@ -79,13 +78,13 @@ write_verdict d = first_fault write_checks d
 
 -- "each has .. count 0"; of a success document 01, "Count is the number of commands accepted"
 abbrev pub write_count : Verdict → ℕ
-write_count Pass = 1
-write_count (Fails f) = 0
+write_count (Ok _) = 1
+write_count (Err f) = 0
 
 -- "puts the whole command at the first free dword of a lent batch buffer"; each refusal "leaves the buffer untouched"
 abbrev pub written_by : Verdict → List ℕ → ℕ → List ℕ → List ℕ
-written_by Pass command first old = take first old ++ (command ++ drop (first + length command) old)
-written_by (Fails f) command first old = old
+written_by (Ok _) command first old = take first old ++ (command ++ drop (first + length command) old)
+written_by (Err f) command first old = old
 
 -- THE PROMISE of `writer::write`: its answer, and every word of the buffer as it returns
 pub record Written (row free : ℕ) (dwords : List ℕ) (first : ℕ) (old : List ℕ) (answer : Answer) (new : List ℕ) : Type 0 where

@@ -1,7 +1,5 @@
 -- What the one search over a command's dwords looks for.
-use Rattle.std.specs.Prelude.{ℕ, ◌-◌, ◌%◌, ◌≤◌, Bool, true, not, ◌||◌, ◌≡◌, List, get_or, eqb}
-use Rattle.rules.specs.declared.Found.{Found}
-use Rattle.rules.specs.declared.Found.TheVariants.{At, Nothing}
+use Rattle.std.specs.Prelude.{ℕ, ◌-◌, ◌%◌, ◌≤◌, Bool, true, not, ◌||◌, ◌≡◌, List, get_or, eqb, Option, Some, None}
 use Rattle.rules.specs.declared.Windows.{Windows}
 use Rattle.rules.specs.Words.{allowed}
 use Rattle.rules.specs.Commands.{store_row, group_size, spot}
@@ -23,9 +21,9 @@ unfoldable pub wrong : Sought → Windows → ℕ → List ℕ → ℕ → Bool
 wrong what w r d k = wrong_at what w r d k (spot r k)
 
 -- the place of what a search finds among n dwords, or n where it finds nothing
-unfoldable pub place_of : Found → ℕ → ℕ
-place_of (At k) n = k
-place_of Nothing n = n
+unfoldable pub place_of : Option ℕ → ℕ → ℕ
+place_of (Some k) n = k
+place_of None n = n
 
 -- a command of n dwords has a header and whole groups; only a store may end inside its group
 pub record Whole (r n : ℕ) : Type 0 where

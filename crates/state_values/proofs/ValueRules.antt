@@ -1,5 +1,6 @@
 -- 17: which dword of a structure breaks a value rule.
 -- Assumes nothing.
+use Rattle.std.specs.Prelude.{Some, None}
 use Prim.Native.Nat.{ℕ, ◌≤◌, ◌<◌}
 use mathlib.Core.Path.{◌≡◌, refl, sym, ◌∙◌, subst⁻¹}
 use mathlib.Core.Bool.{Bool, true, false, not}
@@ -8,7 +9,6 @@ use native.Mathlib.Omega.{arith}
 use borrow.Author.Tests.{le-leb}
 use lib.Dec.{T}
 use lib.ListN.{get_or}
-use Rattle.rules.specs.declared.Found.TheVariants.{At, Nothing}
 use Rattle.rules.specs.declared.Kind.{Kind}
 use Rattle.rules.specs.declared.Kind.TheVariants.{Viewport, ColourCalc}
 use Rattle.rules.specs.Words.{first_from, first_of}
@@ -21,19 +21,19 @@ no_nan w e = subst⁻¹ (λ (t : Bool). T (not t)) e tt
 
 -- the ways through two depths
 module _ (low high : ℕ) where
-  pub low_nan : is_nan low ≡ true → At 0 ≡ first_of (depth_wrong (low ∷ high ∷ [])) 2
+  pub low_nan : is_nan low ≡ true → Some 0 ≡ first_of (depth_wrong (low ∷ high ∷ [])) 2
   unfolding first_from depth_wrong
   low_nan e = simp e
 
-  pub high_nan : is_nan low ≡ false → is_nan high ≡ true → At 1 ≡ first_of (depth_wrong (low ∷ high ∷ [])) 2
+  pub high_nan : is_nan low ≡ false → is_nan high ≡ true → Some 1 ≡ first_of (depth_wrong (low ∷ high ∷ [])) 2
   unfolding first_from depth_wrong
   high_nan e f = simp (e, f)
 
-  pub ordered : is_nan low ≡ false → is_nan high ≡ false → at_most low high ≡ true → Nothing ≡ first_of (depth_wrong (low ∷ high ∷ [])) 2
+  pub ordered : is_nan low ≡ false → is_nan high ≡ false → at_most low high ≡ true → None ≡ first_of (depth_wrong (low ∷ high ∷ [])) 2
   unfolding first_from depth_wrong
   ordered e f o = simp (e, f, o)
 
-  pub misordered : is_nan low ≡ false → is_nan high ≡ false → at_most low high ≡ false → At 1 ≡ first_of (depth_wrong (low ∷ high ∷ [])) 2
+  pub misordered : is_nan low ≡ false → is_nan high ≡ false → at_most low high ≡ false → Some 1 ≡ first_of (depth_wrong (low ∷ high ∷ [])) 2
   unfolding first_from depth_wrong
   misordered e f o = simp (e, f, o)
 
@@ -54,13 +54,13 @@ module _ (d : List ℕ) where
 
   -- where no dword breaks a value rule, none of the values is a NaN
   pub depth_no_nan : (k : ℕ) {kind : Kind} → k < 2 → kind ≡ Viewport
-      → first_of (structure_value_wrong kind d) (layout_of kind).dwords ≡ Nothing → is_nan (get_or d k 0) ≡ false
+      → first_of (structure_value_wrong kind d) (layout_of kind).dwords ≡ None → is_nan (get_or d k 0) ≡ false
   unfolding layout_of depth_wrong structure_value_wrong
   depth_no_nan k h v e =
       some_left (is_nan (get_or d k 0)) _ (none_found (structure_value_wrong Viewport d) 0 2 (rw v at e) k (omega arith) (omega arith))
 
   pub colour_no_nan : (k : ℕ) {kind : Kind} → 2 ≤ k → k < 6 → kind ≡ ColourCalc
-      → first_of (structure_value_wrong kind d) (layout_of kind).dwords ≡ Nothing → is_nan (get_or d k 0) ≡ false
+      → first_of (structure_value_wrong kind d) (layout_of kind).dwords ≡ None → is_nan (get_or d k 0) ≡ false
   unfolding layout_of structure_value_wrong
   colour_no_nan k h l v e =
       sym (colour_at k h refl refl)

@@ -4,7 +4,6 @@ ghost use Rattle.rules.specs.Words.{first_of};
 ghost use Rattle.rules.specs.Structures.{factors_named, functions_named, entry_wrong, blend_wrong};
 
 use formats::{named_factor, named_function};
-use rules::Found;
 use words::dwords::dword;
 
 // The source's and the destination's factor, of the colour and of alpha.
@@ -47,15 +46,15 @@ fn entry_wrong(w: u32) -> bool
 }
 
 // The first dword of the first entry that breaks the rule. An entry has two dwords, and the rule looks at the first.
-pub fn first_entry(d: &[u32]) -> Found
+pub fn first_entry(d: &[u32]) -> Option<usize>
     ensures { result ≡ first_of (blend_wrong d.now) 17 }
 {
     let mut k = 1;
     while k < 17 {
         if entry_wrong(dword(d, k)) {
-            return Found::At(k);
+            return Some(k);
         }
         k += 2;
     }
-    Found::Nothing
+    None
 }

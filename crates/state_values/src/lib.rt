@@ -1,8 +1,7 @@
 // The values of a state structure: whether they break a rule (17), and what they are where they do not.
 #![tactic(auto)]
 
-ghost use Rattle.std.specs.Prelude.{◌≡◌, false, cond, [], ◌∷◌, ◌+◌, ◌-◌, ◌^◌, leb, get_or};
-ghost use Rattle.rules.specs.declared.Found.TheVariants.{Nothing};
+ghost use Rattle.std.specs.Prelude.{◌≡◌, false, cond, [], ◌∷◌, ◌+◌, ◌-◌, ◌^◌, leb, get_or, None};
 ghost use Rattle.rules.specs.Words.{first_of};
 ghost use Rattle.rules.specs.Structures.{layout_of, structure_value_wrong, depth_wrong, colour_wrong, single, is_nan, at_most};
 ghost use Rattle.rules.specs.Structures.{values_of};
@@ -10,7 +9,7 @@ ghost use Rattle.rules.specs.Structures.{values_of};
 mod blend;
 
 use blend::first_entry;
-use rules::{Found, Kind, Reading};
+use rules::{Kind, Reading};
 use words::dwords::dword;
 
 // The sign of a value, the highest of its bits.
@@ -65,38 +64,38 @@ fn at_most(minimum: u32, maximum: u32) -> bool
 }
 
 // The first of two depths that is a NaN; else the maximum, if it is below the minimum.
-fn first_depth(minimum: u32, maximum: u32) -> Found
+fn first_depth(minimum: u32, maximum: u32) -> Option<usize>
     ensures { result ≡ first_of (depth_wrong (minimum ∷ maximum ∷ [])) 2 }
 {
     if is_nan(minimum) {
-        return Found::At(0);
+        return Some(0);
     }
     if is_nan(maximum) {
-        return Found::At(1);
+        return Some(1);
     }
     if at_most(minimum, maximum) {
-        Found::Nothing
+        None
     } else {
-        Found::At(1)
+        Some(1)
     }
 }
 
 // The first NaN of a blend constant.
-fn first_colour(d: &[u32]) -> Found
+fn first_colour(d: &[u32]) -> Option<usize>
     ensures { result ≡ first_of (colour_wrong d.now) 6 }
 {
     let mut k = 2;
     while k < 6 {
         if is_nan(dword(d, k)) {
-            return Found::At(k);
+            return Some(k);
         }
         k += 1;
     }
-    Found::Nothing
+    None
 }
 
 // The first dword that breaks a value rule.
-pub fn first_value(kind: Kind, d: &[u32]) -> Found
+pub fn first_value(kind: Kind, d: &[u32]) -> Option<usize>
     ensures { result ≡ first_of (structure_value_wrong kind d.now) (layout_of kind).dwords }
 {
     match kind {
@@ -108,7 +107,7 @@ pub fn first_value(kind: Kind, d: &[u32]) -> Found
 
 // The values of a structure that breaks no value rule.
 pub fn values(kind: Kind, d: &[u32]) -> Reading
-    requires { first_of (structure_value_wrong kind d.now) (layout_of kind).dwords ≡ Nothing }
+    requires { first_of (structure_value_wrong kind d.now) (layout_of kind).dwords ≡ None }
     ensures { result ≡ values_of kind d.now }
 {
     match kind {

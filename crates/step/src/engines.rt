@@ -4,9 +4,8 @@ ghost use Rattle.rules.specs.Formats.{surface_formats};
 ghost use Rattle.rows.specs.Masks.{mask_table};
 ghost use Rattle.looks.specs.Looks.{look_of};
 
-use looks::Look;
 use rules::names::ROWS;
-use rules::{Level, Windows};
+use rules::{Fault, Level, Windows};
 
 // The tables are lent for the table engine; the plain one has its rules written out.
 pub fn looked(
@@ -17,7 +16,7 @@ pub fn looked(
     level: Level,
     masks: &[[u32; 16]; ROWS],
     formats: &[u16; 512],
-) -> Look
+) -> Result<(usize, usize), Fault>
     requires { (at < length batch.now) × (masks.now ≡ mask_table) × (formats.now ≡ surface_formats) }
     ensures { result ≡ look_of w batch.now at level }
 {

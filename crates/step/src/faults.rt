@@ -1,51 +1,51 @@
 // The structure that a command points to, and what is wrong with it (14 to 17).
-ghost use Rattle.std.specs.Prelude.{◌≡◌, cond};
-ghost use Rattle.rules.specs.declared.Pointer.TheVariants.{NoPointer, PointsTo};
+ghost use Rattle.std.specs.Prelude.{◌≡◌, cond, None, Some};
 ghost use Rattle.rules.specs.Words.{bit, cleared};
 ghost use Rattle.rules.specs.Structures.{read_at, verdict_of};
 ghost use Rattle.rules.specs.Step.{pointer_of};
 ghost use Rattle.step.specs.Parts.{captured, SmallBase, structural_of};
 
-use rules::faults::fails;
 use rules::names::{BLEND_ROW, COLOUR_ROW, VIEWPORT_ROW};
-use rules::{Base, Kind, Pointer, Reading, Reason, Verdict, Windows};
+use rules::{Fault, Kind, Reading, Reason, Windows};
 use words::dwords::dword;
 
 // A structure of this kind, where bit 0 of its pointer is set, and how far above the base.
-fn pointed(kind: Kind, pointer: u32) -> Pointer
-    ensures { result ≡ cond (bit pointer 0) (PointsTo kind (cleared pointer 6)) NoPointer }
+fn pointed(kind: Kind, pointer: u32) -> Option<(Kind, u32)>
+    ensures { result ≡ cond (bit pointer 0) (Some (kind, cleared pointer 6)) None }
 {
     if pointer % 2 != 1 {
-        return Pointer::NoPointer;
+        return None;
     }
-    Pointer::PointsTo(kind, pointer / 64 * 64)
+    Some((kind, pointer / 64 * 64))
 }
 
 // The structure that the command points to, and how far above the base.
-pub fn pointer_of(row: usize, command: &[u32]) -> Pointer
+#[tactic(auto, unfolding(rules::specs::Step::pointer_of))]
+pub fn pointer_of(row: usize, command: &[u32]) -> Option<(Kind, u32)>
     ensures { result ≡ pointer_of row command.now }
 {
     if row < VIEWPORT_ROW {
-        return Pointer::NoPointer;
+        return None;
     }
     let pointer = dword(command, 1);
     match row {
-        VIEWPORT_ROW => Pointer::PointsTo(Kind::Viewport, pointer / 32 * 32),
+        VIEWPORT_ROW => Some((Kind::Viewport, pointer / 32 * 32)),
         COLOUR_ROW => pointed(Kind::ColourCalc, pointer),
         BLEND_ROW => pointed(Kind::Blend, pointer),
-        _ => Pointer::NoPointer,
+        _ => None,
     }
 }
 
 // What a read says of the capture.
-fn verdict_of(reading: Reading) -> Verdict
+#[tactic(auto, unfolding(rules::specs::Structures::verdict_of))]
+fn verdict_of(reading: Reading) -> Result<(), Fault>
     ensures { result ≡ verdict_of reading }
 {
     match reading {
-        Reading::Depths(_, _) => Verdict::Pass,
-        Reading::Colour(_, _, _, _) => Verdict::Pass,
-        Reading::Blending => Verdict::Pass,
-        Reading::Unreadable(f) => Verdict::Fails(f),
+        Reading::Depths(_, _) => Ok(()),
+        Reading::Colour(_, _, _, _) => Ok(()),
+        Reading::Blending => Ok(()),
+        Reading::Unreadable(f) => Err(f),
     }
 }
 
@@ -57,7 +57,7 @@ fn verdict_at<'a>(
     kind: Kind,
     address: u64,
     place: usize,
-) -> Verdict
+) -> Result<(), Fault>
     ensures { result ≡ verdict_of (read_at batch.now w.batch.at state.now w.state.at kind address place) }
 {
     verdict_of(structures::read(batch, w.batch.at, state, w.state.at, kind, address, place))
@@ -69,18 +69,18 @@ pub fn structure_fault<'a>(
     batch: &'a [u32],
     state: &'a [u32],
     w: Windows,
-    pointer: Pointer,
-    base: Base,
+    pointer: Option<(Kind, u32)>,
+    base: Option<u64>,
     place: usize,
-) -> Verdict
+) -> Result<(), Fault>
     requires { SmallBase base }
     ensures { result ≡ structural_of (captured w batch.now state.now) place pointer base }
 {
-    let Pointer::PointsTo(kind, offset) = pointer else {
-        return Verdict::Pass;
+    let Some((kind, offset)) = pointer else {
+        return Ok(());
     };
-    let Base::Set(b) = base else {
-        return fails(Reason::BaseNeverSet, place);
+    let Some(b) = base else {
+        return Err(Fault::in_batch(Reason::BaseNeverSet, place));
     };
     let address = b + offset as u64;
     match kind {

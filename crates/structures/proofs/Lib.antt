@@ -2,4 +2,3 @@ pub mod BitRules
 pub mod Judging
 pub mod Reading
 pub mod Unique
-pub mod Which

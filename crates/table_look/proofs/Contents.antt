@@ -1,5 +1,6 @@
 -- The ways out of the checks of a command's dwords, 10 to 13, and what the code calls the row, the length and the dwords.
 -- Assumes nothing.
+use Rattle.std.specs.Prelude.{Ok, Err, Some, None}
 use Prim.Native.Nat.{ℕ, ◌+◌, ◌-◌, ◌%◌, ◌≤◌, ◌<◌}
 use native.Mathlib.Nat.{zero-mod, mod_self}
 use native.Mathlib.Omega.{arith}
@@ -12,8 +13,6 @@ use borrow.Author.Tests.{eqb-true, eq-eqb, ne_eqb, ltb-true, ltb-false, not-fals
 use Rattle.rules.specs.declared.Windows.{Windows}
 use Rattle.rules.specs.declared.Level.{Level}
 use Rattle.rules.specs.declared.Level.TheVariants.{First, Second}
-use Rattle.rules.specs.declared.Found.TheVariants.{At, Nothing}
-use Rattle.rules.specs.declared.Verdict.TheVariants.{Pass, Fails}
 use Rattle.rules.specs.declared.Reason.TheVariants.{WrongLength, PastTheWindow, BitNotAllowed, NestedStart, ValueBroken, RangeOutside}
 use Rattle.rules.specs.Words.{field, first_of}
 use Rattle.rules.specs.Refusals.{batch_window, fault}
@@ -26,7 +25,6 @@ use Rattle.rules.specs.Addresses.{range_wrong}
 use Rattle.rules.specs.Step.{header_at, row_at, length_at, dwords_at, nested}
 use Rattle.rules.proofs.Searching.{some_left, some_right, and_left}
 use Rattle.rules.proofs.Tables.{each, at_each}
-use Rattle.looks.specs.declared.Look.TheVariants.{Wrong}
 use Rattle.looks.specs.Looks.{content_of, look_of}
 use Rattle.looks.proofs.LookLaws.{misfit_look, past_look, dwords_are}
 use Rattle.search.specs.declared.Sought.TheVariants.{Bits, Values, Ranges}
@@ -34,29 +32,29 @@ use Rattle.search.specs.Search.{wrong_at, wrong, Whole}
 
 -- the ways out of the checks of the dwords
 module _ (w : Windows) (r : ℕ) (d : List ℕ) (at : ℕ) (level : Level) where
-  pub bits_fail : {k : ℕ} → first_of (wrong Bits w r d) (length d) ≡ At k
-      → Fails (fault BitNotAllowed batch_window (at + k)) ≡ content_of w r d at level
+  pub bits_fail : {k : ℕ} → first_of (wrong Bits w r d) (length d) ≡ Some k
+      → Err (fault BitNotAllowed batch_window (at + k)) ≡ content_of w r d at level
   unfolding content_of wrong wrong_at bit_wrong allowed_of allowed_at
   bits_fail e = rw e
 
-  module _ (b : first_of (wrong Bits w r d) (length d) ≡ Nothing) where
-    pub nested_fails : nested r level ≡ true → Fails (fault NestedStart batch_window at) ≡ content_of w r d at level
+  module _ (b : first_of (wrong Bits w r d) (length d) ≡ None) where
+    pub nested_fails : nested r level ≡ true → Err (fault NestedStart batch_window at) ≡ content_of w r d at level
     unfolding content_of wrong wrong_at bit_wrong allowed_of allowed_at
     nested_fails n = rw (b, n)
 
     module _ (n : nested r level ≡ false) where
-      pub values_fail : {k : ℕ} → first_of (wrong Values w r d) (length d) ≡ At k
-          → Fails (fault ValueBroken batch_window (at + k)) ≡ content_of w r d at level
+      pub values_fail : {k : ℕ} → first_of (wrong Values w r d) (length d) ≡ Some k
+          → Err (fault ValueBroken batch_window (at + k)) ≡ content_of w r d at level
       unfolding content_of wrong wrong_at bit_wrong allowed_of allowed_at value_wrong
       values_fail e = rw (b, n, e)
 
-      module _ (v : first_of (wrong Values w r d) (length d) ≡ Nothing) where
-        pub ranges_fail : {k : ℕ} → first_of (wrong Ranges w r d) (length d) ≡ At k
-            → Fails (fault RangeOutside batch_window (at + k)) ≡ content_of w r d at level
+      module _ (v : first_of (wrong Values w r d) (length d) ≡ None) where
+        pub ranges_fail : {k : ℕ} → first_of (wrong Ranges w r d) (length d) ≡ Some k
+            → Err (fault RangeOutside batch_window (at + k)) ≡ content_of w r d at level
         unfolding content_of wrong wrong_at bit_wrong allowed_of allowed_at value_wrong range_wrong access_at
         ranges_fail e = rw (b, n, v, e)
 
-        pub all_clear : first_of (wrong Ranges w r d) (length d) ≡ Nothing → Pass ≡ content_of w r d at level
+        pub all_clear : first_of (wrong Ranges w r d) (length d) ≡ None → Ok tt ≡ content_of w r d at level
         unfolding content_of wrong wrong_at bit_wrong allowed_of allowed_at value_wrong range_wrong access_at
         all_clear e = rw (b, n, v, e)
 
@@ -69,7 +67,7 @@ not_nested r (Second back) n = sym (ne_eqb r start_row n)
 module _ (w : Windows) (batch : List ℕ) (at : ℕ) (level : Level) (k : row_at batch at < row_count) where
   pub unfit_look : (right : Bool) → length_right (row_at batch at) (header_at batch at) ≡ right
       → (not right || ltb (length batch - at) (length_at batch at)) ≡ true
-      → Wrong (fault (cond right PastTheWindow WrongLength) batch_window at) ≡ look_of w batch at level
+      → Err (fault (cond right PastTheWindow WrongLength) batch_window at) ≡ look_of w batch at level
   unfit_look true e stops = past_look w batch at level k e (omega (arith, ltb-true (length batch - at) (length_at batch at) stops))
   unfit_look false e stops = misfit_look w batch at level k e
 

@@ -3,24 +3,20 @@
 
 ghost use Rattle.std.specs.Prelude.{◌≡◌, cond, ◌+◌, ◌^◌, ◌≤◌, ◌<◌, length};
 ghost use Rattle.rules.specs.declared.Reason.TheVariants.{WrongLength, PastTheWindow};
-ghost use Rattle.rules.specs.Refusals.{fault, batch_window};
 ghost use Rattle.rules.specs.Formats.{surface_formats};
 ghost use Rattle.rules.specs.Commands.{row_count};
 ghost use Rattle.rules.specs.Step.{nested, row_at};
 ghost use Rattle.rows.specs.Masks.{mask_table};
 ghost use Rattle.search.specs.Search.{Whole};
-ghost use Rattle.looks.specs.declared.Look.TheVariants.{Wrong};
 ghost use Rattle.looks.specs.Looks.{content_of, look_of};
 
-use looks::Look;
 use rows::{length_of, length_right, row_of};
-use rules::faults::{fails, in_batch};
 use rules::names::{
     BASE_ROW, BLEND_ROW, COLOUR_ROW, END_ROW, INDEX_BUFFER_ROW, LOAD_REGISTER_ROW, NOOP_ROW,
     PIPE_ROW, PRIMITIVE_ROW, ROWS, SELECT_ROW, SET_REGISTERS_ROW, START_ROW, STORE_REGISTER_ROW,
     STORE_ROW, TOPOLOGY_ROW, VERTEX_BUFFERS_ROW, VERTEX_ELEMENTS_ROW, VIEWPORT_ROW,
 };
-use rules::{Level, Reason, Verdict, Windows};
+use rules::{Fault, Level, Reason, Windows};
 use search::{Sought, first_wrong};
 
 // Whether the row is a batch start, and the walk in a second-level batch. The row is asked first: where it is written out, nothing of this is left of most.
@@ -46,7 +42,7 @@ fn content_fault(
     level: Level,
     masks: &[[u32; 16]; ROWS],
     formats: &[u16; 512],
-) -> Verdict
+) -> Result<(), Fault>
     requires { (row < row_count) × (Whole row (length command.now)) × (at + length command.now < 2 ^ 63) × (masks.now ≡ mask_table) × (formats.now ≡ surface_formats) }
     ensures { result ≡ content_of w row command.now at level }
 {
@@ -55,24 +51,18 @@ fn content_fault(
     let range = first_wrong(Sought::Ranges, w, row, command, masks, formats);
     let len = command.len();
     if bit < len {
-        return fails(Reason::BitNotAllowed, at + bit);
+        return Err(Fault::in_batch(Reason::BitNotAllowed, at + bit));
     }
     if is_nested(row, level) {
-        return fails(Reason::NestedStart, at);
+        return Err(Fault::in_batch(Reason::NestedStart, at));
     }
     if value < len {
-        return fails(Reason::ValueBroken, at + value);
+        return Err(Fault::in_batch(Reason::ValueBroken, at + value));
     }
     if range < len {
-        return fails(Reason::RangeOutside, at + range);
+        return Err(Fault::in_batch(Reason::RangeOutside, at + range));
     }
-    Verdict::Pass
-}
-
-fn wrong(reason: Reason, index: usize) -> Look
-    ensures { result ≡ Wrong (fault reason batch_window index) }
-{
-    Look::Wrong(in_batch(reason, index))
+    Ok(())
 }
 
 // Why a command cannot be looked into: its length is wrong, or else it goes past the window.
@@ -95,7 +85,7 @@ fn seen(
     level: Level,
     masks: &[[u32; 16]; ROWS],
     formats: &[u16; 512],
-) -> Look
+) -> Result<(usize, usize), Fault>
     requires { (at < length batch.now) × (row ≡ row_at batch.now at) × (row < row_count) × (masks.now ≡ mask_table) × (formats.now ≡ surface_formats) }
     ensures { result ≡ look_of w batch.now at level }
 {
@@ -103,13 +93,11 @@ fn seen(
     let right = length_right(row, header);
     let length = length_of(row, header);
     if !right | (batch.len() - at < length) {
-        return wrong(misfit(right), at);
+        return Err(Fault::in_batch(misfit(right), at));
     }
     let next = at + length;
-    match content_fault(w, row, &batch[at..next], at, level, masks, formats) {
-        Verdict::Fails(f) => Look::Wrong(f),
-        Verdict::Pass => Look::Whole(row, length),
-    }
+    content_fault(w, row, &batch[at..next], at, level, masks, formats)?;
+    Ok((row, length))
 }
 
 // The checks 7 to 13 of the command at the position. Each row's number is written out, so that the compiler makes of the one search a search for each row,
@@ -121,7 +109,7 @@ pub fn looked(
     level: Level,
     masks: &[[u32; 16]; ROWS],
     formats: &[u16; 512],
-) -> Look
+) -> Result<(usize, usize), Fault>
     requires { (at < length batch.now) × (masks.now ≡ mask_table) × (formats.now ≡ surface_formats) }
     ensures { result ≡ look_of w batch.now at level }
 {
@@ -144,6 +132,6 @@ pub fn looked(
         COLOUR_ROW => seen(COLOUR_ROW, batch, w, at, level, masks, formats),
         PRIMITIVE_ROW => seen(PRIMITIVE_ROW, batch, w, at, level, masks, formats),
         BLEND_ROW => seen(BLEND_ROW, batch, w, at, level, masks, formats),
-        _ => wrong(Reason::UnknownHeader, at),
+        _ => Err(Fault::in_batch(Reason::UnknownHeader, at)),
     }
 }

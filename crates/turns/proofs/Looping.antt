@@ -1,5 +1,6 @@
 -- The loop of `run`: the commands done, their words in the record buffer, and what the walk has still to give.
 -- Assumes nothing.
+use Rattle.std.specs.Prelude.{Ok, Err, Option, Some, None}
 use Prim.Native.Nat.{ℕ, suc, ◌+◌, ◌-◌, ◌*◌, ◌^◌, ◌≤◌, ◌<◌}
 use native.Mathlib.Nat.{sub-zero}
 use native.Mathlib.Omega.{arith}
@@ -13,16 +14,10 @@ use lib.Dec.{eqb}
 use borrow.Author.Tests.{eqb-true, eqb-false}
 use borrow.Rule.Slice.PartMut.{put_mid, mid_of, post_of, mid_len}
 use Rattle.rules.specs.declared.Answer.{Answer}
-use Rattle.rules.specs.declared.Base.{Base}
-use Rattle.rules.specs.declared.Base.TheVariants.{Set}
 use Rattle.rules.specs.declared.Cursor.{Cursor}
 use Rattle.rules.specs.declared.Command.{Command}
-use Rattle.rules.specs.declared.After.{After}
-use Rattle.rules.specs.declared.After.TheVariants.{Ends, To}
 use Rattle.rules.specs.declared.Fault.{Fault}
-use Rattle.rules.specs.declared.Outcome.TheVariants.{Taken, Refused}
-use Rattle.rules.specs.declared.Verdict.{Verdict}
-use Rattle.rules.specs.declared.Verdict.TheVariants.{Pass, Fails}
+use Rattle.rules.specs.Refusals.{Verdict}
 use Rattle.rules.specs.Words.{bit}
 use Rattle.rules.specs.Refusals.{answer_with}
 use Rattle.rules.specs.Windows.{Capture, window_limit}
@@ -40,7 +35,7 @@ use Rattle.step.specs.Parts.{SmallBase}
 use Rattle.turns.specs.Running.{stop_for, Ran}
 
 -- the commands done stand in the record buffer, the rest of it is as it came, and the walk is these commands and then the run r
-pub record SoFar (base : Base) (c : Capture) (old new : List ℕ) (n : ℕ) (r : Run) : Type 0 where
+pub record SoFar (base : Option ℕ) (c : Capture) (old new : List ℕ) (n : ℕ) (r : Run) : Type 0 where
   pub done : List Command
   pub count : length done ≡ n
   pub stand : new ≡ words_of done ++ drop (words_for n) old
@@ -52,7 +47,7 @@ follow_join [] ls r = refl
 follow_join (k ∷ ks) ls r = ap (then k) (follow_join ks ls r)
 
 -- nothing more to give: the promise
-pub ran : {base : Base} {c : Capture} {old new : List ℕ} {n : ℕ} {v : Verdict} → SoFar base c old new n (ended v)
+pub ran : {base : Option ℕ} {c : Capture} {old new : List ℕ} {n : ℕ} {v : Verdict} → SoFar base c old new n (ended v)
     → Ran base c old (answer_with v n) new
 unfolding answer_of written_of commands_of end_of
 ran {old = old} {n = n} {v = v} s = record {
@@ -61,7 +56,7 @@ ran {old = old} {n = n} {v = v} s = record {
 }
 
 -- one command more is done, and its record written
-pub wrote : {base : Base} {c : Capture} {old new : List ℕ} {n : ℕ} {k : Command} {r : Run} → SoFar base c old new n (then k r)
+pub wrote : {base : Option ℕ} {c : Capture} {old new : List ℕ} {n : ℕ} {k : Command} {r : Run} → SoFar base c old new n (then k r)
     → SoFar base c old (with_record new n k) (n + 1) r
 unfolding follow
 wrote {old = old} {k = k} {r = r} s = record {
@@ -72,7 +67,7 @@ wrote {old = old} {k = k} {r = r} s = record {
 }
 
 -- the loop's head: n commands are done, and the walk stands at s, with what is left of the budget and of the room
-pub record Going (base : Base) (c : Capture) (old new : List ℕ) (n : ℕ) (s : Cursor) : Type 0 where
+pub record Going (base : Option ℕ) (c : Capture) (old new : List ℕ) (n : ℕ) (s : Cursor) : Type 0 where
   pub budgeted : n ≤ budget
   pub small : SmallBase s.base
   pub within : Within c s
@@ -89,29 +84,29 @@ none_left k n h = omega arith
 new_base_small : (d : List ℕ) → new_base d < 2 ^ 48
 new_base_small d = omega arith
 
-pub same_base : {a b : ℕ} → Set a ≡ Set b → a ≡ b
+pub same_base : {a b : ℕ} → Some a ≡ Some b → a ≡ b
 same_base q = cc
 
-base_small : (r : ℕ) (d : List ℕ) {base : Base} → SmallBase base → SmallBase (base_after r d base)
+base_small : (r : ℕ) (d : List ℕ) {base : Option ℕ} → SmallBase base → SmallBase (base_after r d base)
 unfolding base_after
 base_small r d {base} s = by (eqb r base_row && bit (get_or d 6 0) 0)
   where
-    by : (t : Bool) → SmallBase (cond t (Set (new_base d)) base)
+    by : (t : Bool) → SmallBase (cond t (Some (new_base d)) base)
     by true = record { small = λ b e. omega (arith, same_base e, new_base_small d) }
     by false = s
 
-small_next : (c : Capture) (s : Cursor) {k : Command} {t : Cursor} → SmallBase s.base → step_of c s ≡ Taken k (To t)
+small_next : (c : Capture) (s : Cursor) {k : Command} {t : Cursor} → SmallBase s.base → step_of c s ≡ Ok (k, Some t)
     → SmallBase t.base
-small_next c s {k} {t} m e = by (To t) refl (taken_way c s e)
+small_next c s {k} {t} m e = by (Some t) refl (taken_way c s e)
   where
-    by : (a : After) → a ≡ To t → Way c s a → SmallBase t.base
+    by : (a : Option Cursor) → a ≡ Some t → Way c s a → SmallBase t.base
     by a q (ends r l) = absurd (ends_nowhere q)
     by a q (returns r l) = rw (← same_cursor q) m
     by a q (jumps r b) = rw (← same_cursor q) m
     by a q (calls r b) = rw (← same_cursor q) m
     by a q (goes_on r n) = rw (← same_cursor q) (base_small _ _ m)
 
-begun : (base : Base) (c : Capture) (old : List ℕ) → SmallBase base → Going base c old old 0 (start base)
+begun : (base : Option ℕ) (c : Capture) (old : List ℕ) → SmallBase base → Going base c old old 0 (start base)
 unfolding words_of follow
 begun base c old m = record {
   budgeted = omega arith;
@@ -126,49 +121,49 @@ begun base c old m = record {
   };
 }
 
-pub started : {base : Base} {s : Cursor} (c : Capture) (old : List ℕ) → s ≡ start base → SmallBase base
+pub started : {base : Option ℕ} {s : Cursor} (c : Capture) (old : List ℕ) → s ≡ start base → SmallBase base
     → Going s.base c old old 0 s
 started {base} c old e m = rw e (begun base c old m)
 
 -- what is shown from the cursor's own base is shown from the base it was given
-pub from_start : {base : Base} {s : Cursor} {c : Capture} {old new : List ℕ} {r : Answer} → s ≡ start base
+pub from_start : {base : Option ℕ} {s : Cursor} {c : Capture} {old new : List ℕ} {r : Answer} → s ≡ start base
     → Ran s.base c old r new → Ran base c old r new
-from_start {base} {s} {c} {old} {new} {r} e x = subst (λ (b : Base). Ran b c old r new) (ap (λ (t : Cursor). t.base) e) x
+from_start {base} {s} {c} {old} {new} {r} e x = subst (λ (b : Option ℕ). Ran b c old r new) (ap (λ (t : Cursor). t.base) e) x
 
 -- what each way out of a turn, and the turn itself, makes of it
-module _ {base : Base} {c : Capture} {old new : List ℕ} {n : ℕ} {s : Cursor} (g : Going base c old new n s) where
-  pub out_of_budget : budget ≤ n → Ran base c old (answer_with (Fails (spent_at s.at)) n) new
+module _ {base : Option ℕ} {c : Capture} {old new : List ℕ} {n : ℕ} {s : Cursor} (g : Going base c old new n s) where
+  pub out_of_budget : budget ≤ n → Ran base c old (answer_with (Err (spent_at s.at)) n) new
   unfolding trace cut
   out_of_budget h = ran (rw (none_left budget n h) at g.so_far)
 
-  pub refused : {f : Fault} → n < budget → step_of c s ≡ Refused f → Ran base c old (answer_with (Fails f) n) new
+  pub refused : {f : Fault} → n < budget → step_of c s ≡ Err f → Ran base c old (answer_with (Err f) n) new
   unfolding trace cut
   refused h e = ran (rw (left budget n h, e) at g.so_far)
 
-  no_room : {k : Command} (a : After) → n < budget → room_of (length old) ≤ n → step_of c s ≡ Taken k a
-      → SoFar base c old new n (ended (Fails (full_at k.index)))
+  no_room : {k : Command} (a : Option Cursor) → n < budget → room_of (length old) ≤ n → step_of c s ≡ Ok (k, a)
+      → SoFar base c old new n (ended (Err (full_at k.index)))
   unfolding trace cut
-  no_room Ends h l e = rw (left budget n h, none_left (room_of (length old)) n l, e) at g.so_far
-  no_room (To t) h l e = rw (left budget n h, none_left (room_of (length old)) n l, e) at g.so_far
+  no_room None h l e = rw (left budget n h, none_left (room_of (length old)) n l, e) at g.so_far
+  no_room (Some t) h l e = rw (left budget n h, none_left (room_of (length old)) n l, e) at g.so_far
 
-  index_is : {k : Command} {a : After} → step_of c s ≡ Taken k a → k.index ≡ s.at
+  index_is : {k : Command} {a : Option Cursor} → step_of c s ≡ Ok (k, a) → k.index ≡ s.at
   unfolding command_at
   index_is e = ap (λ (k : Command). k.index) (took c s e).command
 
-  pub level_is : {k : Command} {a : After} → step_of c s ≡ Taken k a → level_number s.level ≡ k.level
+  pub level_is : {k : Command} {a : Option Cursor} → step_of c s ≡ Ok (k, a) → level_number s.level ≡ k.level
   unfolding command_at
   level_is e = ap (λ (k : Command). k.level) (sym (took c s e).command)
 
-  pub full : {k : Command} {a : After} → n < budget → room_of (length old) ≤ n → step_of c s ≡ Taken k a
-      → Ran base c old (answer_with (Fails (full_at s.at)) n) new
+  pub full : {k : Command} {a : Option Cursor} → n < budget → room_of (length old) ≤ n → step_of c s ≡ Ok (k, a)
+      → Ran base c old (answer_with (Err (full_at s.at)) n) new
   full {a = a} h l e = rw (← index_is e) (ran (no_room a h l e))
 
-  pub last : {k : Command} → n < budget → n < room_of (length old) → step_of c s ≡ Taken k Ends
-      → Ran base c old (answer_with Pass (n + 1)) (with_record new n k)
+  pub last : {k : Command} → n < budget → n < room_of (length old) → step_of c s ≡ Ok (k, None)
+      → Ran base c old (answer_with (Ok tt) (n + 1)) (with_record new n k)
   unfolding trace cut
   last h l e = ran (wrote (rw (left budget n h, left (room_of (length old)) n l, e) at g.so_far))
 
-  pub next : {k : Command} {t : Cursor} → n < budget → n < room_of (length old) → step_of c s ≡ Taken k (To t)
+  pub next : {k : Command} {t : Cursor} → n < budget → n < room_of (length old) → step_of c s ≡ Ok (k, Some t)
       → Going base c old (with_record new n k) (n + 1) t
   unfolding trace cut
   next h l e = record {
@@ -180,16 +175,16 @@ module _ {base : Base} {c : Capture} {old new : List ℕ} {n : ℕ} {s : Cursor}
   }
 
   -- a command that is not taken stops the run: for the budget, where that is spent, and else for its own fault
-  pub stops : (f : Fault) → (n < budget → Ran base c old (answer_with (Fails f) n) new)
-      → Ran base c old (answer_with (Fails (stop_for f s.at n)) n) new
+  pub stops : (f : Fault) → (n < budget → Ran base c old (answer_with (Err f) n) new)
+      → Ran base c old (answer_with (Err (stop_for f s.at n)) n) new
   stops f h = by (eqb n budget) refl
     where
-      by : (t : Bool) → eqb n budget ≡ t → Ran base c old (answer_with (Fails (cond t (spent_at s.at) f)) n) new
+      by : (t : Bool) → eqb n budget ≡ t → Ran base c old (answer_with (Err (cond t (spent_at s.at) f)) n) new
       by true e = out_of_budget (omega (arith, eqb-true n budget e))
       by false e = h (let m = eqb-false n budget e in omega (arith, g.budgeted))
 
 -- the room for records is what the buffer has, or the budget
-module _ {base : Base} {c : Capture} {old new : List ℕ} {n : ℕ} {s : Cursor} (g : Going base c old new n s) {room : ℕ}
+module _ {base : Option ℕ} {c : Capture} {old new : List ℕ} {n : ℕ} {s : Cursor} (g : Going base c old new n s) {room : ℕ}
     (m : (room ≤ room_of (length old)) × (room ≤ budget) × (room < budget → room ≡ room_of (length old))) where
   pub none_left_there : n ≡ room → n < budget → room_of (length old) ≤ n
   none_left_there e h = let z = m.2 (omega arith) in omega arith
@@ -227,11 +222,11 @@ tail_written n k l h =
     ∙ sym (two_set l m (first_word k) (second_word k) there) ∙ record_put l n k h
 
 -- the places that are answered fit 32 bits
-module _ {base : Base} {c : Capture} {old new : List ℕ} {n : ℕ} {s : Cursor} (g : Going base c old new n s) where
+module _ {base : Option ℕ} {c : Capture} {old new : List ℕ} {n : ℕ} {s : Cursor} (g : Going base c old new n s) where
   pub small_at : length c.batch ≤ window_limit → (0 < 2 ^ 32) × (s.at < 2 ^ 32) × (n < 2 ^ 32)
   small_at l = let a = g.within.position in let b = g.budgeted in (omega arith, omega arith, omega arith)
 
-  pub small_place : {f : Fault} → length c.batch ≤ window_limit → length c.state ≤ window_limit → step_of c s ≡ Refused f
+  pub small_place : {f : Fault} → length c.batch ≤ window_limit → length c.state ≤ window_limit → step_of c s ≡ Err f
       → (f.window < 2 ^ 32) × (f.index < 2 ^ 32) × (n < 2 ^ 32)
   small_place l m e =
       let b = g.budgeted in

@@ -1,6 +1,5 @@
 -- What the loop is about: the run behind the checks 1 to 4.
-use Rattle.std.specs.Prelude.{ℕ, ◌≡◌, cond, List, length, eqb}
-use Rattle.rules.specs.declared.Base.{Base}
+use Rattle.std.specs.Prelude.{ℕ, ◌≡◌, cond, List, length, eqb, Option}
 use Rattle.rules.specs.declared.Answer.{Answer}
 use Rattle.rules.specs.declared.Fault.{Fault}
 use Rattle.rules.specs.Windows.{Capture}
@@ -13,6 +12,6 @@ abbrev pub stop_for : Fault → ℕ → ℕ → Fault
 stop_for f at n = cond (eqb n budget) (spent_at at) f
 
 -- what the loop promises: the walk behind the checks 1 to 4
-pub record Ran (base : Base) (c : Capture) (old : List ℕ) (answer : Answer) (new : List ℕ) : Type 0 where
+pub record Ran (base : Option ℕ) (c : Capture) (old : List ℕ) (answer : Answer) (new : List ℕ) : Type 0 where
   pub answers : answer ≡ answer_of (cut (room_of (length old)) (trace_from budget c (start base)))
   pub written : new ≡ written_of (cut (room_of (length old)) (trace_from budget c (start base))) old

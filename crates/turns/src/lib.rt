@@ -1,8 +1,7 @@
 // The loop behind both engines: a capture whose windows are sound, run command by command, each with its record.
 #![tactic(auto)]
 
-ghost use Rattle.std.specs.Prelude.{◌≡◌, ◌^◌, ◌≤◌, ◌<◌, length};
-ghost use Rattle.rules.specs.declared.Verdict.TheVariants.{Fails};
+ghost use Rattle.std.specs.Prelude.{◌≡◌, ◌^◌, ◌≤◌, ◌<◌, length, Err};
 ghost use Rattle.rules.specs.Refusals.{answer_with};
 ghost use Rattle.rules.specs.Windows.{window_limit};
 ghost use Rattle.rules.specs.Step.{budget, spent_at, full_at};
@@ -14,8 +13,7 @@ ghost use Rattle.turns.specs.Running.{stop_for, Ran};
 use records::answers::{acceptance, refusal};
 use records::write_record;
 use rows::mask_table;
-use rules::faults::in_batch;
-use rules::{After, Answer, Base, Cursor, Fault, Level, Outcome, Reason, Windows};
+use rules::{Answer, Cursor, Fault, Level, Reason, Windows};
 use step::step;
 use table::SURFACE_FORMATS;
 use turn::turn_at;
@@ -32,7 +30,7 @@ pub fn run<'a>(
     batch: &'a [u32],
     state: &'a [u32],
     w: Windows,
-    base: Base,
+    base: Option<u64>,
     records: &mut [u32],
 ) -> Answer
     requires { (Fitted w batch.now state.now) × (length batch.now ≤ window_limit) × (length state.now ≤ window_limit) × (SmallBase base) }
@@ -46,17 +44,17 @@ pub fn run<'a>(
     loop {
         let s = turn.cursor;
         match step(plainly, batch, state, w, s, &masks, &formats) {
-            Outcome::Refused(f) => return stopped(f, s.at, n),
-            Outcome::Taken(command, after) => {
+            Err(f) => return stopped(f, s.at, n),
+            Ok((command, after)) => {
                 match after {
-                    After::Ends => {
+                    None => {
                         if n == room {
                             return stopped(full(s.at), s.at, n);
                         }
                         write_record(&mut records[2 * n..], turn.level, command);
                         return acceptance(n + 1);
                     }
-                    After::To(t) => {
+                    Some(t) => {
                         if n == room {
                             return stopped(full(s.at), s.at, n);
                         }
@@ -71,7 +69,7 @@ pub fn run<'a>(
 }
 
 // Where a run starts.
-fn started(base: Base) -> Cursor
+fn started(base: Option<u64>) -> Cursor
     ensures { result ≡ start base }
 {
     Cursor {
@@ -92,7 +90,7 @@ fn room_in(len: usize) -> usize
 // The answer where the command at the position is not taken, for this fault: behind the last command of the budget it is the budget's.
 fn stopped(f: Fault, at: usize, n: usize) -> Answer
     requires { (f.window < 2 ^ 32) × (f.index < 2 ^ 32) × (at < 2 ^ 32) × (n < 2 ^ 32) }
-    ensures { result ≡ answer_with (Fails (stop_for f at n)) n }
+    ensures { result ≡ answer_with (Err (stop_for f at n)) n }
 {
     if n == BUDGET {
         return refusal(spent(at), n);
@@ -104,12 +102,12 @@ fn stopped(f: Fault, at: usize, n: usize) -> Answer
 fn full(at: usize) -> Fault
     ensures { result ≡ full_at at }
 {
-    in_batch(Reason::RecordsFull, at)
+    Fault::in_batch(Reason::RecordsFull, at)
 }
 
 // The budget is spent, and the run has come to the position.
 fn spent(at: usize) -> Fault
     ensures { result ≡ spent_at at }
 {
-    in_batch(Reason::BudgetSpent, at)
+    Fault::in_batch(Reason::BudgetSpent, at)
 }

@@ -10,7 +10,7 @@ ghost use Rattle.rules.specs.Records.{CheckedFrom};
 ghost use Rattle.walk.specs.Lent.{lent_capture};
 
 use records::answers::refusal;
-use rules::{Answer, Base, BaseChoice, Verdict, Window, Windows};
+use rules::{Answer, BaseChoice, Window, Windows};
 use turns::run;
 
 // The windows of a capture, as numbers.
@@ -35,12 +35,12 @@ fn windows_of(
 }
 
 // The base that a run starts with: the state window's address, whether the window is empty or not, or none.
-fn starting_base(choice: BaseChoice, state_at: u64) -> Base
+fn starting_base(choice: BaseChoice, state_at: u64) -> Option<u64>
     ensures { result ≡ starting_base choice state_at }
 {
     match choice {
-        BaseChoice::StateWindow => Base::Set(state_at),
-        BaseChoice::NoBase => Base::Unset,
+        BaseChoice::StateWindow => Some(state_at),
+        BaseChoice::NoBase => None,
     }
 }
 
@@ -61,7 +61,7 @@ pub fn check_by<'a>(
     ensures { CheckedFrom choice (lent_capture batch.now batch_at state.now state_at scratch_at scratch_len) records.old result records.new }
 {
     let w = windows_of(batch, batch_at, state, state_at, scratch_at, scratch_len);
-    if let Verdict::Fails(f) = windows::sound(batch.len(), state.len(), w) {
+    if let Err(f) = windows::sound(batch.len(), state.len(), w) {
         return refusal(f, 0);
     }
     let base = starting_base(choice, state_at);

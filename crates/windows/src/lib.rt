@@ -5,16 +5,13 @@
 
 ghost use Rattle.std.specs.Prelude.{◌≡◌, ◌+◌, ◌≤◌, ltb, length, take, drop};
 ghost use Rattle.rules.specs.declared.Within.TheVariants.{AnyWindow};
-ghost use Rattle.rules.specs.declared.Verdict.TheVariants.{Fails};
 ghost use Rattle.rules.specs.Words.{some, some_two};
-ghost use Rattle.rules.specs.Refusals.{fault, batch_window};
 ghost use Rattle.rules.specs.Windows.{lent, listed, end, window_limit, counts_wrong, unaligned, ends_too_high, share_byte, window_fault};
 ghost use Rattle.rules.specs.Windows.{fits, holds_dwords, held_at, part_of};
 ghost use Rattle.rules.specs.Addresses.{access_wrong};
 ghost use Rattle.windows.specs.Parts.{WithinItsWindow};
 
-use rules::faults::in_batch;
-use rules::{Access, Held, Reason, Verdict, Window, Windows, Within};
+use rules::{Access, Fault, Held, Reason, Window, Windows, Within};
 
 // The most dwords that the batch or the state may have.
 const WINDOW_LIMIT: usize = 65536;
@@ -81,30 +78,24 @@ fn some_share(w: Windows) -> bool
     (share_byte(w.batch, w.state) | share_byte(w.batch, w.scratch)) | share_byte(w.state, w.scratch)
 }
 
-// The refusals that precede the walk have no place of their own.
-fn refused(reason: Reason) -> Verdict
-    ensures { result ≡ Fails (fault reason batch_window 0) }
-{
-    Verdict::Fails(in_batch(reason, 0))
-}
-
-// Whether the windows are as document 01 wants them: its numbers 1 to 4, in that order.
-pub fn sound(batch_count: usize, state_count: usize, w: Windows) -> Verdict
+// Whether the windows are as document 01 wants them: its numbers 1 to 4, in that order. These refusals have no place of their own.
+#[tactic(auto, using(crate::proofs::Sounding::in_order_lem))]
+pub fn sound(batch_count: usize, state_count: usize, w: Windows) -> Result<(), Fault>
     ensures { result ≡ window_fault (record { batch = batch_count; state = state_count; windows = w }) }
 {
     if counts_wrong(batch_count, state_count) {
-        return refused(Reason::WrongCounts);
+        return Err(Fault::in_batch(Reason::WrongCounts, 0));
     }
     if some_unaligned(w) {
-        return refused(Reason::AddressUnaligned);
+        return Err(Fault::in_batch(Reason::AddressUnaligned, 0));
     }
     if some_too_high(w) {
-        return refused(Reason::EndsTooHigh);
+        return Err(Fault::in_batch(Reason::EndsTooHigh, 0));
     }
     if some_share(w) {
-        return refused(Reason::WindowsShare);
+        return Err(Fault::in_batch(Reason::WindowsShare, 0));
     }
-    Verdict::Pass
+    Ok(())
 }
 
 // Whether all the bytes lie in some window. Left at the first that holds them, since each test has several ways out. Scratch is asked first: it
@@ -155,16 +146,16 @@ fn holds_dwords(w: Window, address: u64, n: usize) -> bool
 }
 
 // Which of the two lent windows holds n dwords at the address, and at which of its dwords they start. The batch is asked first.
-fn held(batch: Window, state: Window, address: u64, n: usize) -> Held
+fn held(batch: Window, state: Window, address: u64, n: usize) -> Option<Held>
     ensures { result ≡ held_at batch state address n }
 {
     if holds_dwords(batch, address, n) {
-        return Held::InBatch(((address - batch.at) / 4) as usize);
+        return Some(Held::InBatch(((address - batch.at) / 4) as usize));
     }
     if holds_dwords(state, address, n) {
-        return Held::InState(((address - state.at) / 4) as usize);
+        return Some(Held::InState(((address - state.at) / 4) as usize));
     }
-    Held::Nowhere
+    None
 }
 
 // Where lent words lie.
@@ -185,7 +176,7 @@ pub fn held_in(
     state_at: u64,
     address: u64,
     n: usize,
-) -> Held
+) -> Option<Held>
     ensures { result ≡ held_at (lent batch_at (length batch.now)) (lent state_at (length state.now)) address n }
 {
     held(lent(batch_at, batch), lent(state_at, state), address, n)
@@ -199,14 +190,15 @@ fn part(words: &[u32], from: usize, n: usize) -> &[u32]
 }
 
 // The n dwords from where they are held on, as a part of the window that holds them; an empty part if neither does.
-pub fn part_of<'a>(batch: &'a [u32], state: &'a [u32], held: Held, n: usize) -> &'a [u32]
+#[tactic(auto, unfolding(rules::specs::Windows::part_of))]
+pub fn part_of<'a>(batch: &'a [u32], state: &'a [u32], held: Option<Held>, n: usize) -> &'a [u32]
     requires { WithinItsWindow (length batch.now) (length state.now) n held }
     ensures { result.now ≡ part_of batch.now state.now n held }
 {
     match held {
-        Held::InBatch(i) => part(batch, i, n),
-        Held::InState(i) => part(state, i, n),
-        Held::Nowhere => &batch[..0],
+        Some(Held::InBatch(i)) => part(batch, i, n),
+        Some(Held::InState(i)) => part(state, i, n),
+        None => &batch[..0],
     }
 }
 

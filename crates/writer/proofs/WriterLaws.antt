@@ -1,5 +1,6 @@
 -- Laws of the writer's loops: the dwords that are left decide, and a copy behind a header.
 -- Assumes nothing.
+use Rattle.std.specs.Prelude.{Ok}
 use Prim.Native.Nat.{ℕ, suc, ◌+◌, ◌-◌, ◌*◌, ◌/◌, ◌%◌, ◌^◌, ◌≤◌, ◌<◌}
 use native.Mathlib.Numerals.{add-one}
 use native.Mathlib.Omega.{arith}
@@ -16,7 +17,6 @@ use Rattle.rules.specs.Writer.{count_right, some_from, written_by}
 use Rattle.rules.proofs.Searching.{never_both}
 use Rattle.rules.proofs.Tables.{each, at_each}
 use Rattle.rules.proofs.HeaderParts.{fielded}
-use Rattle.rules.specs.declared.Verdict.TheVariants.{Pass}
 
 -- what is asked of the dwords from k on has the answer of all of them
 pub record Left (bad : ℕ → Bool) (len k : ℕ) : Type 0 where
@@ -50,7 +50,7 @@ place_is size k h = rw (ne_eqb k 0 (λ q. omega arith))
 
 -- a header, and a copy of the dwords behind it
 pub copied : (old dwords : List ℕ) (first header : ℕ) → first + (1 + length dwords) ≤ length old
-    → paste (set old first header) (first + 1) dwords (length dwords) ≡ written_by Pass (header ∷ dwords) first old
+    → paste (set old first header) (first + 1) dwords (length dwords) ≡ written_by (Ok tt) (header ∷ dwords) first old
 copied old dwords first header fits =
     let a : first + 1 ≡ suc first = add-one first in
     let e : first + 1 + length dwords ≡ first + (1 + length dwords) = omega arith in
@@ -63,7 +63,7 @@ copied old dwords first header fits =
     ∙ ap (λ (n : ℕ). take first old ++ (header ∷ (dwords ++ drop (first + n) old))) one)
 
 -- what was put at the start of a buffer stands there
-pub stands_first : (command old : List ℕ) (n : ℕ) → length command ≡ n → take n (written_by Pass command 0 old) ≡ command
+pub stands_first : (command old : List ℕ) (n : ℕ) → length command ≡ n → take n (written_by (Ok tt) command 0 old) ≡ command
 stands_first command old n e = take_at command _ n e
 
 -- a row without dwords in its groups has none after its header

@@ -1,8 +1,7 @@
 // The writer of commands (request 4): a row, its header's free bits and the dwords after the header in, the whole command in a lent buffer out.
 #![tactic(auto)]
 
-ghost use Rattle.std.specs.Prelude.{◌≡◌, true, not, [], ◌∷◌, ◌+◌, ◌-◌, ◌≤◌, ◌<◌, length, get_or, ltb};
-ghost use Rattle.rules.specs.declared.Verdict.TheVariants.{Pass, Fails};
+ghost use Rattle.std.specs.Prelude.{◌≡◌, true, not, [], ◌∷◌, ◌+◌, ◌-◌, ◌≤◌, ◌<◌, length, get_or, ltb, Ok, Err};
 ghost use Rattle.rules.specs.Words.{allowed};
 ghost use Rattle.rules.specs.Refusals.{fault, batch_window, answer_with};
 ghost use Rattle.rules.specs.Commands.{row_count, the_row, group_size};
@@ -13,9 +12,8 @@ ghost use Rattle.rows.specs.Masks.{mask_table};
 use commands::bits::bit_wrong;
 use rows::headers::{free_bits, key};
 use rows::{group_size, length_of, length_right, mask_table};
-use rules::faults::{in_batch, number};
 use rules::names::ROWS;
-use rules::{Answer, Fault, Reason, Verdict};
+use rules::{Answer, Fault, Reason};
 use words::allowed;
 
 // The most dwords that a command has: a header and 33 vertex buffers of four.
@@ -53,7 +51,7 @@ fn header_for(row: usize, free: u32, n: usize) -> u32
 // Puts a header and the dwords after it into a buffer that has room for them.
 fn put(header: u32, dwords: &[u32], into: &mut [u32], first: usize)
     requires { first + (1 + length dwords.now) ≤ length into.old }
-    ensures { into.new ≡ written_by Pass (header ∷ dwords.now) first into.old }
+    ensures { into.new ≡ written_by (Ok tt) (header ∷ dwords.now) first into.old }
 {
     into[first] = header;
     let mut i = 0;
@@ -91,13 +89,6 @@ fn dwords_kept(row: usize, header: u32, dwords: &[u32]) -> bool
     bits_kept(row, &command[..length], &masks[row])
 }
 
-// A refusal: its place is 0,0.
-fn fails(reason: Reason) -> Verdict
-    ensures { result ≡ Fails (fault reason batch_window 0) }
-{
-    Verdict::Fails(in_batch(reason, 0))
-}
-
 // Whether so many dwords from the first free one on go past the buffer's end.
 fn room_short(room: usize, first: usize, dwords: usize) -> bool
     ensures { result ≡ ltb room (first + (1 + dwords)) }
@@ -108,39 +99,40 @@ fn room_short(room: usize, first: usize, dwords: usize) -> bool
     room - first - 1 < dwords
 }
 
-// The refusals in their order. Nothing is written here.
-fn judged(row: usize, free: u32, dwords: &[u32], room: usize, first: usize) -> Verdict
+// The refusals in their order, each with the place 0,0. Nothing is written here.
+fn judged(row: usize, free: u32, dwords: &[u32], room: usize, first: usize) -> Result<(), Fault>
     ensures { result ≡ write_verdict (draft row free dwords.now room first) }
 {
     // 7, 8
     if ROWS <= row {
-        return fails(Reason::UnknownHeader);
+        return Err(Fault::in_batch(Reason::UnknownHeader, 0));
     }
     if !count_right(row, free, dwords.len()) {
-        return fails(Reason::WrongLength);
+        return Err(Fault::in_batch(Reason::WrongLength, 0));
     }
     // 10: of the header, and of the dwords after it
     if !allowed(free, free_bits(row)) {
-        return fails(Reason::BitNotAllowed);
+        return Err(Fault::in_batch(Reason::BitNotAllowed, 0));
     }
     if !dwords_kept(row, header_for(row, free, dwords.len()), dwords) {
-        return fails(Reason::BitNotAllowed);
+        return Err(Fault::in_batch(Reason::BitNotAllowed, 0));
     }
     // 22
     if room_short(room, first, dwords.len()) {
-        return fails(Reason::NoRoom);
+        return Err(Fault::in_batch(Reason::NoRoom, 0));
     }
-    Verdict::Pass
+    Ok(())
 }
 
 // The answer to a refusal.
+#[tactic(auto, unfolding(rules::specs::Refusals::answer_with))]
 fn refused(fault: Fault) -> Answer
     requires { (fault.window ≡ 0) × (fault.index ≡ 0) }
-    ensures { result ≡ answer_with (Fails fault) 0 }
+    ensures { result ≡ answer_with (Err fault) 0 }
 {
     let reason = fault.reason;
     Answer {
-        reason: number(reason),
+        reason: reason.into(),
         window: 0,
         index: 0,
         count: 0,
@@ -153,8 +145,8 @@ pub fn write(row: u32, free: u32, dwords: &[u32], batch: &mut [u32], first: usiz
 {
     let at = row as usize;
     match judged(at, free, dwords, batch.len(), first) {
-        Verdict::Fails(fault) => refused(fault),
-        Verdict::Pass => {
+        Err(fault) => refused(fault),
+        Ok(()) => {
             put(header_for(at, free, dwords.len()), dwords, batch, first);
             Answer {
                 reason: 0,

@@ -1,11 +1,11 @@
 -- `judge` meets its promise: what `read` has filled in is checked, and a refusal of `read` is the answer.
 -- Assumes nothing.
+use Rattle.std.specs.Prelude.{Ok}
 use native.Mathlib.Omega.{arith}
 use mathlib.Core.Path.{sym}
 use lib.ListN.{length}
 use lib.Seq.{length-take-le}
 use borrow.Author.Rules.{rules}
-use Rattle.rules.specs.declared.Opened.TheVariants.{Holds}
 use Rattle.rules.specs.File.{FileRead, trailer_of}
 use Rattle.capture.proofs.Reading.{FileHolds, file_holds}
 use Rattle.capture.proofs.Judging.{known, not_read, read_and_checked}
@@ -20,7 +20,7 @@ start c = c.before.before.before.before.before.before.before
 
 -- what `read` promised, in the arm that goes on
 was_read : (c : tie.In-Holds) → (let a = (start (called c)).args in
-    FileRead a.file.now a.batch.now a.state.now (Holds c.in-Holds.contents)
+    FileRead a.file.now a.batch.now a.state.now (Ok c.in-Holds.contents)
     (called c).read.new.batch (called c).read.new.state)
 was_read c = known (called c).read.ensures c.in-Holds.is
 

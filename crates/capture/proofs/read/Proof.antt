@@ -1,12 +1,12 @@
 -- `read` meets its contract: `examine` has answered before the first store, and what it held to be true gives both calls of `fill`
 -- their room.
 -- Assumes nothing.
+use Rattle.std.specs.Prelude.{Ok}
 use native.Mathlib.Omega.{arith}
 use mathlib.Core.Path.{◌≡◌, sym, ◌∙◌}
 use lib.ListN.{length}
 use borrow.Author.Rules.{rules}
 use Rattle.rules.specs.File.{opened_of}
-use Rattle.rules.specs.declared.Opened.TheVariants.{Holds}
 use Rattle.capture.proofs.Reading.{FileHolds, file_holds, left_alone, filled_in}
 use Rattle.capture.proofs.read.Statement.{statement}
 use Rattle.capture.proofs.read.Tie as tie
@@ -16,7 +16,7 @@ start c = c.before.before.before.before.before
 
 -- what `examine` answered, in the arm that reads, and what the file has shown by it
 holds : (c : tie.In-Holds) → (let a = (start c).args in
-    opened_of a.file.now (length a.batch.now) (length a.state.now) ≡ Holds c.in-Holds.contents)
+    opened_of a.file.now (length a.batch.now) (length a.state.now) ≡ Ok c.in-Holds.contents)
 holds c = sym c.examine.ensures ∙ c.in-Holds.is
 
 shown : (c : tie.In-Holds) → (let a = (start c).args in

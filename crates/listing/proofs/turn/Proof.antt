@@ -1,11 +1,11 @@
 -- `listing::turn` meets its promise: both refusals are asked before anything is written, and what they leave is turned.
 -- Assumes nothing.
+use Rattle.std.specs.Prelude.{None}
 use Prim.Native.Nat.{ℕ}
 use mathlib.Core.Path.{◌≡◌, refl, sym, ◌∙◌}
 use mathlib.Core.List.{List}
 use lib.ListN.{length}
 use borrow.Author.Rules.{rules}
-use Rattle.rules.specs.declared.Found.TheVariants.{Nothing}
 use Rattle.listing.proofs.Judging.{first_stray, stray_fails, full_fails, has_room, none_fails, as_judged}
 use Rattle.listing.proofs.turn.Statement.{statement}
 use Rattle.listing.proofs.turn.Tie as tie
@@ -21,15 +21,15 @@ buffer c = c.args.new.now
 abbrev searched : tie.In_default → tie.After-first_stray
 searched c = c.before
 
-none_stray : (c : tie.In_default) → first_stray (listing (searched c)) ≡ Nothing
+none_stray : (c : tie.In_default) → first_stray (listing (searched c)) ≡ None
 none_stray c = sym (searched c).first_stray.ensures ∙ c.in_default.is
 
 -- 10
-stray : tie.Need-returns-in-At
+stray : tie.Need-returns-in-Some
 stray c =
     let found = c.before in
     let s = found.before in
-    as_judged _ (stray_fails (listing s) (length (buffer s)) (sym s.first_stray.ensures ∙ found.in-At.is)) c.refused.ensures refl
+    as_judged _ (stray_fails (listing s) (length (buffer s)) (sym s.first_stray.ensures ∙ found.in-Some.is)) c.refused.ensures refl
 
 -- 18
 full : tie.Need-returns-then-new-old

@@ -17,21 +17,21 @@ judged_requires c κs =
     ends_below _ _ _ _ _ _ _ c.dwords_of-n.ensures c.held_in-held.ensures (search rules) (search rules) (search rules)
 
 values_requires : tie.Need-values-requires
-values_requires c κs = values_well _ (sym c.judged.ensures ∙ c.in-Pass.is)
+values_requires c κs = values_well _ (sym c.judged.ensures ∙ c.in-Ok.is)
 
-returns : tie.Need-returns-in-Pass
+returns : tie.Need-returns-in-Ok
 returns c =
     let j = c.before.before in
     rw (c.values.ensures
     ∙ reading_is _ _ _ _ _ _ _ j.dwords_of-n.ensures j.held_in-held.ensures
-    j.part_of-d.ensures (sym c.in-Pass.is ∙ j.judged.ensures))
+    j.part_of-d.ensures (sym c.in-Ok.is ∙ j.judged.ensures))
     (structure_read _ _ _ _ _ _ _)
 
-returns_2 : tie.Need-returns-in-Fails
+returns_2 : tie.Need-returns-in-Err
 returns_2 c =
     let j = c.before in
     rw (reading_is _ _ _ _ _ _ _ j.dwords_of-n.ensures j.held_in-held.ensures
-    j.part_of-d.ensures (sym c.in-Fails.is ∙ j.judged.ensures))
+    j.part_of-d.ensures (sym c.in-Err.is ∙ j.judged.ensures))
     (structure_read _ _ _ _ _ _ _)
 
 pub read_spec : {M : Type 1} → statement M

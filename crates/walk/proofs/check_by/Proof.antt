@@ -1,7 +1,7 @@
 -- `walk::check_by` meets its promise: 1 to 4 come first, and then the run.
 -- Assumes nothing.
+use Rattle.std.specs.Prelude.{Ok, Err}
 use mathlib.Core.Path.{◌≡◌, ◌∙◌}
-use Rattle.rules.specs.declared.Verdict.TheVariants.{Pass, Fails}
 use Rattle.rules.specs.Windows.{Capture, lengths_of, window_fault}
 use Rattle.rules.proofs.Places.{window_place}
 use Rattle.rules.proofs.Ranges.{counted}
@@ -25,12 +25,12 @@ lent c =
     lent_capture a.batch.now a.batch_at a.state.now a.state_at a.scratch_at a.scratch_len
 
 -- what the checks 1 to 4 found
-failing : (c : tie.In-Fails) → window_fault (lengths_of (lent c.before)) ≡ Fails c.in-Fails.f
+failing : (c : tie.In-Err) → window_fault (lengths_of (lent c.before)) ≡ Err c.in-Err.f
 failing c =
     let s = c.before in
-    judged (lent s) (made s).windows_of-w.ensures s.sound.ensures ∙ c.in-Fails.is
+    judged (lent s) (made s).windows_of-w.ensures s.sound.ensures ∙ c.in-Err.is
 
-passing : (c : tie.In_default) → window_fault (lengths_of (lent c.before)) ≡ Pass
+passing : (c : tie.In_default) → window_fault (lengths_of (lent c.before)) ≡ Ok tt
 passing c =
     let s = c.before in
     judged (lent s) (made s).windows_of-w.ensures s.sound.ensures ∙ c.in_default.is
@@ -40,7 +40,7 @@ refusal_requires c κs =
     let place = window_place _ _ (failing c) in
     (omega (arith, place.0), omega (arith, place.1), search rules)
 
-returns : tie.Need-returns-in-Fails
+returns : tie.Need-returns-in-Err
 returns c = rw c.refusal.ensures (unsound _ _ _ (failing c.before))
 
 -- where the base is made

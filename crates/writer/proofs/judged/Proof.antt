@@ -1,5 +1,6 @@
 -- `writer::judged` meets its contract: the checks in their order, each with its own question.
 -- Assumes nothing.
+use Rattle.std.specs.Prelude.{Ok, Err}
 use Prim.Native.Nat.{ℕ, ◌<◌}
 use mathlib.Core.Path.{◌≡◌, sym, ap, ◌∙◌}
 use mathlib.Core.Bool.{true, false, not}
@@ -7,7 +8,8 @@ use mathlib.Core.List.{[], ◌∷◌}
 use lib.ListN.{length}
 use borrow.Author.Rules.{rules}
 use borrow.Author.Tests.{le-leb, lt-leb, not-true, not-false}
-use Rattle.rules.specs.declared.Verdict.TheVariants.{Pass, Fails}
+use Rattle.rules.specs.declared.Fault.{Fault}
+use Rattle.rules.specs.Refusals.{Verdict}
 use Rattle.rules.specs.declared.Reason.TheVariants.{BitNotAllowed}
 use Rattle.rules.specs.Words.{allowed}
 use Rattle.rules.specs.Refusals.{fault, batch_window}
@@ -20,6 +22,9 @@ use Rattle.writer.proofs.WriterLaws.{no_group}
 use Rattle.writer.proofs.judged.Statement.{statement}
 use Rattle.writer.proofs.judged.Tie as tie
 
+abbrev said : Fault → Verdict
+said f = Err f
+
 abbrev d : tie.Start → Draft
 d s = let a = s.args in draft a.row a.free a.dwords.now a.room a.first
 
@@ -30,7 +35,7 @@ start c = c.before.before
 row_known : (c : tie.Else-row-ge-ROWS) → (start c).args.row < row_count
 row_known c = search rules
 
-seven : (c : tie.Else-row-ge-ROWS) → row_unknown (d (start c)) ≡ Pass
+seven : (c : tie.Else-row-ge-ROWS) → row_unknown (d (start c)) ≡ Ok tt
 unfolding row_unknown
 seven c = rw (lt-leb row_count (start c).args.row (row_known c))
 
@@ -41,7 +46,7 @@ row c = c.before.before
 count_known : (c : tie.Else-not-count_right) → let a = (start (row c)).args in count_right (the_row a.row).total (group_size a.row) a.free (length a.dwords.now) ≡ true
 count_known c = sym c.count_right.ensures ∙ c.if-not-count_right.false
 
-eight : (c : tie.Else-not-count_right) → count_wrong (d (start (row c))) ≡ Pass
+eight : (c : tie.Else-not-count_right) → count_wrong (d (start (row c))) ≡ Ok tt
 unfolding count_wrong
 eight c = rw (count_known c)
 
@@ -66,7 +71,7 @@ kept_told c =
     c.dwords_kept.ensures
     ∙ ap (λ (h : ℕ). not (some_from (bit_wrong a.row (h ∷ a.dwords.now)) 1 (length a.dwords.now))) c.header_for.ensures
 
-stray : (c : tie.Then-not-dwords_kept) → bit_stray (d (start (row (count (free c.before))))) ≡ Fails (fault BitNotAllowed batch_window 0)
+stray : (c : tie.Then-not-dwords_kept) → bit_stray (d (start (row (count (free c.before))))) ≡ Err (fault BitNotAllowed batch_window 0)
 unfolding bit_stray
 stray c =
     let asked = c.before in
@@ -75,7 +80,7 @@ stray c =
     not-false _ (sym (kept_told asked) ∙ c.if-not-dwords_kept.true) in
     rw (free_known (free asked), one)
 
-ten : (c : tie.Else-not-dwords_kept) → bit_stray (d (start (row (count (free c.before))))) ≡ Pass
+ten : (c : tie.Else-not-dwords_kept) → bit_stray (d (start (row (count (free c.before))))) ≡ Ok tt
 unfolding bit_stray
 ten c =
     let asked = c.before in
@@ -89,7 +94,7 @@ unknown : tie.Need-returns-then-row-ge-ROWS
 unfolding write_checks row_unknown
 unknown c =
     let s = c.before.before.before in
-    c.fails.ensures
+    ap said c.in_batch.ensures
     ∙ fails_first [] row_unknown (count_wrong ∷ bit_stray ∷ room_short ∷ []) (d s) tt (rw (le-leb row_count s.args.row (search rules)))
 
 miscounted : tie.Need-returns-then-not-count_right
@@ -98,7 +103,7 @@ miscounted c =
     let wrong = c.before in
     let asked = wrong.before in
     let s = start asked.before in
-    c.fails-then-not-count_right.ensures
+    ap said c.in_batch-then-not-count_right.ensures
     ∙ fails_first (row_unknown ∷ []) count_wrong (bit_stray ∷ room_short ∷ []) (d s) (seven asked.before, tt)
     (rw (sym asked.count_right.ensures ∙ wrong.if-not-count_right.true))
 
@@ -110,7 +115,7 @@ free_stray c =
     let counted = asked.before.before in
     let a = (start (row counted)).args in
     let no = ap (allowed a.free) (sym asked.free_bits.ensures) ∙ sym asked.allowed.ensures ∙ wrong.if-not-allowed.true in
-    c.fails-then-not-allowed.ensures
+    ap said c.in_batch-then-not-allowed.ensures
     ∙ fails_first (row_unknown ∷ count_wrong ∷ []) bit_stray (room_short ∷ []) (d (start (row counted))) (seven (row counted), (eight counted, tt)) (rw no)
 
 dword_stray : tie.Need-returns-then-not-dwords_kept
@@ -118,7 +123,7 @@ unfolding write_checks
 dword_stray c =
     let wrong = c.before in
     let counted = count (free wrong.before) in
-    c.fails-then-not-dwords_kept.ensures
+    ap said c.in_batch-then-not-dwords_kept.ensures
     ∙ fails_first (row_unknown ∷ count_wrong ∷ []) bit_stray (room_short ∷ []) (d (start (row counted))) (seven (row counted), (eight counted, tt)) (stray wrong)
 
 no_room : tie.Need-returns-then-room_short
@@ -127,7 +132,7 @@ no_room c =
     let short = c.before in
     let kept = short.before.before in
     let counted = count (free kept.before) in
-    c.fails-then-room_short.ensures
+    ap said c.in_batch-then-room_short.ensures
     ∙ fails_first (row_unknown ∷ count_wrong ∷ bit_stray ∷ []) room_short [] (d (start (row counted)))
     (seven (row counted), (eight counted, (ten kept, tt))) (rw (sym short.room_short.ensures ∙ short.if-room_short.true))
 

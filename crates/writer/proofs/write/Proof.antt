@@ -1,12 +1,12 @@
 -- `writer::write` meets its promise: the refusals are judged before anything is written, and what they leave is put.
 -- Assumes nothing.
+use Rattle.std.specs.Prelude.{Ok, Err}
 use Prim.Native.Nat.{ℕ}
 use mathlib.Core.Path.{◌≡◌, sym, ap, ◌∙◌}
 use mathlib.Core.List.{◌∷◌}
 use lib.ListN.{length}
 use borrow.Author.Rules.{rules}
-use Rattle.rules.specs.declared.Verdict.{Verdict}
-use Rattle.rules.specs.declared.Verdict.TheVariants.{Pass, Fails}
+use Rattle.rules.specs.Refusals.{Verdict}
 use Rattle.rules.specs.Refusals.{answer_with}
 use Rattle.rules.specs.Writer.{Draft, draft, header_for, command_for, write_verdict, write_count, written_by}
 use Rattle.rules.proofs.Places.{write_place}
@@ -21,20 +21,20 @@ abbrev d : tie.After-judged → Draft
 d c = let a = (start c).args in draft a.row a.free a.dwords.now (length a.batch.now) a.first
 
 -- a refusal
-abbrev judged : tie.In-Fails → tie.After-judged
+abbrev judged : tie.In-Err → tie.After-judged
 judged c = c.before
 
-refusal : (c : tie.In-Fails) → write_verdict (d (judged c)) ≡ Fails c.in-Fails.fault
-refusal c = sym (judged c).judged.ensures ∙ c.in-Fails.is
+refusal : (c : tie.In-Err) → write_verdict (d (judged c)) ≡ Err c.in-Err.fault
+refusal c = sym (judged c).judged.ensures ∙ c.in-Err.is
 
 -- and none
-abbrev clear : tie.In-Pass → tie.After-judged
+abbrev clear : tie.In-Ok → tie.After-judged
 clear c = c.before
 
-pass : (c : tie.In-Pass) → write_verdict (d (clear c)) ≡ Pass
-pass c = sym (clear c).judged.ensures ∙ c.in-Pass.is
+pass : (c : tie.In-Ok) → write_verdict (d (clear c)) ≡ Ok tt
+pass c = sym (clear c).judged.ensures ∙ c.in-Ok.is
 
-refused : tie.Need-returns-in-Fails
+refused : tie.Need-returns-in-Err
 refused c =
     let told = c.before in
     let w = d (judged told) in
@@ -44,7 +44,7 @@ refused c =
       words = sym (ap (λ (v : Verdict). written_by v (command_for w) w.first old) (refusal told));
     }
 
-written : tie.Need-returns-in-Pass
+written : tie.Need-returns-in-Ok
 unfolding answer_with command_for
 written c =
     let put = c.before.before in
@@ -56,7 +56,7 @@ written c =
       answers = sym (ap (λ (v : Verdict). answer_with v (write_count v)) (pass told));
       words =
           put.put.ensures
-          ∙ ap (λ (h : ℕ). written_by Pass (h ∷ w.dwords) w.first old) made.header_for.ensures
+          ∙ ap (λ (h : ℕ). written_by (Ok tt) (h ∷ w.dwords) w.first old) made.header_for.ensures
           ∙ sym (ap (λ (v : Verdict). written_by v (header_for w.row w.free (length w.dwords) ∷ w.dwords) w.first old) (pass told));
     }
 
