@@ -1,10 +1,10 @@
 -- What is read or written in two parts, one behind the other.
-use Rattle.std.proofs.Common.{◌≡◌, ℕ, ◌+◌, ◌-◌, List, ◌++◌, IfOk, OnOk, Result, Ok, Err, length, take, drop, sym, ap, subst, ◌∙◌, append_assoc, drop_at, None, Some}
-use Rattle.std.proofs.lemmas.List.{take-append-le, take_rest}
-use Rattle.std.proofs.Math.Seq.{take-add}
+use Rattle.std.proofs.Common.{◌≡◌, ℕ, ◌+◌, ◌-◌, ◌≤◌, List, [], ◌++◌, IfOk, OnOk, Result, Ok, Err, length, take, drop, sym, arith, length-append, append-nil, ap, subst, ◌∙◌, append_assoc, drop_at, None, Some}
+use Rattle.std.proofs.lemmas.List.{take-append-le, take-append-drop, take_rest}
+use Rattle.std.proofs.Math.Seq.{take-add, take-append_seam}
 use Rattle.std.specs.declared.option.Option.{Option}
 use Rattle.std.specs.Io.{ReadsAtMost}
-use Rattle.std.specs.Io.KnownBytes.{Appends, Consumes, ReadConsumes}
+use Rattle.std.specs.Io.KnownBytes.{Appends, Consumes, Keeps, ReadConsumes}
 
 pub appends_both : (a b c : Option (List ℕ)) (bs cs : List ℕ) → Appends a b bs → Appends b c cs → Appends a c (bs ++ cs)
 appends_both None b c bs cs p q = tt
@@ -31,11 +31,36 @@ pub read_behind : (a b c : Option (List ℕ)) (old new : List ℕ) (d n : ℕ) �
 read_behind a b c old new d n front before read =
     subst (Consumes a c) (ap (λ l. l ++ take n (drop d new)) (sym front) ∙ sym (take-add d n new)) (consumes_both a b c _ _ before read)
 
--- the front that was written, and what was written behind it
-pub written_behind : (a b c : Option (List ℕ)) (text : List ℕ) (d n : ℕ) → Appends a b (take d text)
-    → Appends b c (take n (take (length text - d) (drop d text))) → Appends a c (take (d + n) text)
-written_behind a b c text d n before wrote =
-    subst (Appends a c) (ap (λ l. take d text ++ take n l) (take_rest text d) ∙ sym (take-add d n text)) (appends_both a b c _ _ before wrote)
+-- a text of which all before the rest is written
+pub record Begun (a b : Option (List ℕ)) (text rest : List ℕ) : Type 0 where
+  pub front : List ℕ
+  pub is : text ≡ front ++ rest
+  pub written : Appends a b front
+
+-- with some of the rest written too; the rest behind it is `&rest[n..]`
+pub written_on : {a b : Option (List ℕ)} {text rest : List ℕ} (c : Option (List ℕ)) (n : ℕ) → Begun a b text rest → Appends b c (take n rest)
+    → Begun a c text (take (length rest - n) (drop n rest))
+written_on {a} {b} {text} {rest} c n begun more = record {
+  front = begun.front ++ take n rest;
+  is = begun.is ∙ ap (λ l. begun.front ++ l) (sym (take-append-drop n rest) ∙ ap (λ l. take n rest ++ l) (sym (take_rest rest n)))
+      ∙ sym (append_assoc begun.front (take n rest) _);
+  written = appends_both a b c _ _ begun.written more;
+}
+
+-- what is written is as many first bytes of the text
+pub front_written : {a b : Option (List ℕ)} {text rest : List ℕ} (c : Option (List ℕ)) → Begun a b text rest → Appends b c []
+    → (n : ℕ) × (n ≤ length text) × Appends a c (take n text)
+front_written {a} {b} {text} {rest} c begun none =
+    let whole : take (length begun.front) text ≡ begun.front ++ [] =
+    ap (take (length begun.front)) begun.is ∙ take-append_seam begun.front rest ∙ sym (append-nil begun.front) in
+    let within : length begun.front ≤ length text = rw (begun.is, length-append begun.front rest) (omega arith) in
+    (length begun.front, within, subst (Appends a c) (sym whole) (appends_both a b c _ _ begun.written none))
+
+-- what failed has written nothing more
+pub nothing_more : (b c : Option (List ℕ)) → Keeps b c → Appends b c []
+nothing_more None c keeps = tt
+nothing_more (Some x) None keeps = absurd keeps
+nothing_more (Some x) (Some y) keeps = keeps ∙ sym (append-nil x)
 
 -- four texts that were written one behind the other, the third of which is not named
 pub line_written : {T E : Type 0} (r : Result T E) (a b c d e : Option (List ℕ)) (w x y z : List ℕ) → Appends a b w → Appends b c x → Appends c d y → OnOk r (Appends d e z)

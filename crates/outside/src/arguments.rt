@@ -15,23 +15,21 @@ pub fn count(env: &impl Env) -> usize {
     usize::MAX
 }
 
-// Puts a word at the start of a buffer, and answers its length. One that is not there has no byte, and so has one that is longer than the buffer.
-pub fn whole(env: &impl Env, i: usize, buffer: &mut [u8]) -> usize
-    ensures { result ≤ length buffer.new }
+// A word, put into a buffer. One that is not there has no byte, and so has one that is longer than the buffer.
+pub fn whole<'a>(env: &impl Env, i: usize, buffer: &'a mut [u8]) -> &'a [u8]
+    ensures { length result.now ≤ length buffer.old }
 {
-    match env.arg(i, buffer) {
-        Ok(n) => n,
-        Err(_) => 0,
-    }
+    let n = env.arg(i, buffer).unwrap_or(0);
+    &buffer[..n]
 }
 
-// The same, but one that is longer than the buffer fills it with its first bytes.
-pub fn front(env: &impl Env, i: usize, buffer: &mut [u8]) -> usize
-    ensures { result ≤ length buffer.new }
+// The same, but of one that is longer than the buffer there are the first bytes, as many as fill it.
+pub fn front<'a>(env: &impl Env, i: usize, buffer: &'a mut [u8]) -> &'a [u8]
+    ensures { length result.now ≤ length buffer.old }
 {
     match env.arg(i, buffer) {
-        Ok(n) => n,
-        Err(FillError::TooLong) => buffer.len(),
-        Err(FillError::NotPresent) => 0,
+        Ok(n) => &buffer[..n],
+        Err(FillError::TooLong) => buffer,
+        Err(FillError::NotPresent) => &[],
     }
 }

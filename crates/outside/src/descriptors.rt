@@ -7,7 +7,7 @@ use std::io;
 use std::io::{ErrorKind, Read};
 use std::rt::Files;
 
-// The system's numbers for a descriptor that is not open, and for bytes that are no text.
+// The system's numbers for a descriptor that is not open, and for bytes that are no text: std has no kinds for them, and a message has the system's words.
 const NOT_OPEN: i32 = 9;
 
 const NO_TEXT: i32 = 84;
@@ -17,11 +17,10 @@ const PATH_BYTES: usize = 64;
 
 // Opens what descriptor 5 is open on, where the file of names is, to be read from a place of its own.
 pub fn open_names<R: Files>(files: &R) -> io::Result<R::File> {
-    match File::open(files, "/proc/self/fd/5") {
-        Ok(file) => Ok(file),
-        Err(e) if e.kind() == ErrorKind::NotFound => Err(io::Error::from_raw_os_error(NOT_OPEN)),
-        Err(e) => Err(e),
-    }
+    File::open(files, "/proc/self/fd/5").map_err(|e| match e.kind() {
+        ErrorKind::NotFound => io::Error::from_raw_os_error(NOT_OPEN),
+        _ => e,
+    })
 }
 
 // Opens the file that a link in the folder on descriptor 7 leads to. The launcher puts one there for a name that is no text.
@@ -36,12 +35,9 @@ pub(crate) fn open_link<R: Files>(files: &R, number: usize) -> io::Result<R::Fil
 
 // Whether a descriptor may be written, by what the system tells of it: its flags are in octal, and their lowest digit is 1 or 2 then.
 fn may_be_written(told: &str) -> bool {
-    for line in told.lines() {
-        if line.starts_with("flags:") {
-            return matches!(line.as_bytes().last(), Some(b'1' | b'2'));
-        }
-    }
-    false
+    told.lines()
+        .find(|line| line.starts_with("flags:"))
+        .is_some_and(|line| matches!(line.as_bytes().last(), Some(b'1' | b'2')))
 }
 
 // Whether descriptor 3 may be written. One that may only be read is nobody's to write, and opened anew it could be.

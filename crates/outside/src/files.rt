@@ -7,7 +7,7 @@ use std::rt::Files;
 // A path has fewer bytes than this.
 const PATH_BYTES: usize = 4096;
 
-// The system's number for a name that is too long.
+// The system's number for a name that is too long: the message has the system's words for it, which std's kind has not.
 const NAME_TOO_LONG: i32 = 36;
 
 // Opens a file to be read, by its name and by the number that the name has among those that the program is started with or reads. Today's library takes

@@ -5,7 +5,8 @@ ghost use Rattle.std.specs.Io.KnownBytes.{Consumes, IsAtEnd, Keeps};
 use std::io;
 use std::io::{IsTerminal, Read};
 
-// How many bytes of an input stand at the start of a buffer, and the failure of the read that ended it, if one did.
+// How many bytes of an input stand at the start of a buffer, and the failure of the read that ended it, if one did. It is no `io::Result`, since the
+// clause `consumed` of `fill` says how many were read also where a read failed.
 #[derive(Drop)]
 pub struct Filled {
     pub count: usize,
@@ -30,26 +31,22 @@ pub fn fill<R: Read>(input: &mut R, bytes: &mut [u8]) -> Filled
     ensures consumed { Consumes (R.remaining input.old) (R.remaining input.new) (take result.count bytes.new) }
     ensures ended { IsNone result.failure → result.count < length bytes.new → IsAtEnd (R.remaining input.new) }
 {
-    let mut n = 0;
-    while n < bytes.len() {
-        match read_at(input, bytes, n) {
-            Ok(0) => {
+    let mut count = 0;
+    // No `for` has these turns: each read says itself how far it comes.
+    while count < bytes.len() {
+        match read_at(input, bytes, count) {
+            Ok(0) => break,
+            Ok(more) => count += more,
+            Err(why) => {
                 return Filled {
-                    count: n,
-                    failure: None,
-                };
-            }
-            Ok(more) => n += more,
-            Err(e) => {
-                return Filled {
-                    count: n,
-                    failure: Some(e),
+                    count,
+                    failure: Some(why),
                 };
             }
         }
     }
     Filled {
-        count: n,
+        count,
         failure: None,
     }
 }

@@ -1,6 +1,5 @@
 // Writing in whole, and saying what failed.
-ghost use Rattle.std.specs.Prelude.{◌≡◌, ◌≤◌, ◌++◌, ℕ, List, [], length, take, codes, IsOk, IsTrue, OnOk};
-ghost use Rattle.std.specs.Bool.{OnTrue};
+ghost use Rattle.std.specs.Prelude.{◌≡◌, ◌≤◌, ◌++◌, ℕ, List, [], length, take, codes, IsOk, OnOk};
 ghost use Rattle.std.specs.Io.KnownBytes.{Appends};
 
 use arrayvec::ArrayString;
@@ -11,6 +10,10 @@ use std::io::{ErrorKind, Write};
 // The system's longest words for a failure have some fifty bytes; std puts the failure's number behind them.
 const WORDS_BYTES: usize = 256;
 
+// The error of what could not be done, and was told where messages go.
+#[derive(Clone, Copy)]
+pub struct Told;
+
 // Where a program writes what it was asked for, and where it says what failed.
 #[derive(Drop)]
 pub struct Outputs<O, E> {
@@ -18,19 +21,19 @@ pub struct Outputs<O, E> {
     pub messages: E,
 }
 
-// Writes all of a text, or stops at the first write that takes nothing or fails.
+// Writes all of a text, or stops at the first write that takes nothing or fails. It is not std's `write_all`, which has no clause `front`, and writes on
+// after a write that was interrupted.
 pub fn write_all<W: Write>(to: &mut W, text: &[u8]) -> io::Result<()>
     ensures whole { OnOk result (Appends (W.contents to.old) (W.contents to.new) text.now) }
     ensures empty { text.now ≡ [] → IsOk result }
     ensures front { (n : ℕ) × (n ≤ length text.now) × Appends (W.contents to.old) (W.contents to.new) (take n text.now) }
 {
-    let mut done = 0;
-    while done < text.len() {
-        let n = to.write(&text[done..])?;
-        if n == 0 {
-            return Err(io::Error::from(ErrorKind::WriteZero));
+    let mut rest = text;
+    while !rest.is_empty() {
+        match to.write(rest)? {
+            0 => return Err(io::Error::from(ErrorKind::WriteZero)),
+            n => rest = &rest[n..],
         }
-        done += n;
     }
     Ok(())
 }
@@ -44,10 +47,9 @@ fn words_of(failure: io::Error) -> ArrayString<WORDS_BYTES> {
 
 // The system's words alone.
 fn without_number(words: &str) -> &str {
-    match words.rsplit_once(" (os error ") {
-        Some((front, _)) => front,
-        None => words,
-    }
+    words
+        .rsplit_once(" (os error ")
+        .map_or(words, |(front, _)| front)
 }
 
 // Writes a line: what failed, a colon, and the system's words for why.
@@ -68,21 +70,22 @@ impl<O: Write, E: Write> Outputs<O, E> {
         Outputs { printout, messages }
     }
 
-    // Writes a text to the printout, and says why if that cannot be done.
-    pub fn print(&mut self, text: &[u8]) -> bool
-        ensures empty { text.now ≡ [] → IsTrue result }
-        ensures whole { OnTrue result (Appends (O.contents self.old.printout) (O.contents self.new.printout) text.now) }
+    // Writes a text to the printout, or says why it cannot be done.
+    pub fn print(&mut self, text: &[u8]) -> Result<(), Told>
+        ensures empty { text.now ≡ [] → IsOk result }
+        ensures whole { OnOk result (Appends (O.contents self.old.printout) (O.contents self.new.printout) text.now) }
     {
-        match write_all(&mut self.printout, text) {
-            Ok(()) => true,
-            Err(why) => {
-                let _ = tell_failure(
-                    &mut self.messages,
-                    b"lungevati: the output could not be written",
-                    why,
-                );
-                false
-            }
+        if let Err(why) = write_all(&mut self.printout, text) {
+            let what = b"lungevati: the output could not be written";
+            let _ = tell_failure(&mut self.messages, what, why);
+            return Err(Told);
         }
+        Ok(())
+    }
+
+    // Says that a file was not read, and why.
+    pub fn complain(&mut self, name: &[u8], why: io::Error) {
+        let _ = write_all(&mut self.messages, b"lungevati: ");
+        let _ = tell_failure(&mut self.messages, name, why);
     }
 }
