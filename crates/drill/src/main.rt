@@ -5,35 +5,36 @@
 // has lines of its own, which a program in C obeys (tests/reader).
 #![tactic(auto)]
 
+mod asking;
 mod buffers;
 mod obey;
 mod reading;
 mod sayings;
 mod scans;
 
-use crate::buffers::{LENT, WORDS};
-use crate::obey::take;
-use crate::reading::begun;
+use crate::asking::Engines;
+use crate::buffers::Words;
+use crate::obey::Drill;
 use std::io;
 use std::io::Read;
 
 // More bytes than all the lines have. The program ends there, whatever comes in.
 const INPUT_BYTES: usize = 0x2_0000;
 
-// Obeys each line of the input in turn. What a line sets stays for those behind it. The record buffers of both engines are made once: to make them
-// anew for each question would take longer than the check.
+// Obeys each line of the input in turn. What a line sets stays for those behind it.
 fn main(rt: HostRuntime) -> io::Result<()> {
-    let mut words = [0u32; WORDS];
-    let mut records = [0u32; LENT];
-    let mut twin = [0u32; LENT];
-    let mut line = begun(b'\n');
+    let mut drill = Drill {
+        words: Words::new(),
+        engines: Engines::new(),
+        line: None,
+    };
     let mut byte = [0u8; 1];
     let mut out = rt.stdout();
     for _ in 0..INPUT_BYTES {
         if rt.stdin().read(&mut byte)? == 0 {
             break;
         }
-        line = take(&mut out, line, byte[0], &mut words, &mut records, &mut twin)?;
+        drill.take(&mut out, byte[0])?;
     }
     Ok(())
 }

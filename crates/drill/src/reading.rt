@@ -1,17 +1,16 @@
 // Reading a line: its first letter, its hexadecimal numbers, and `[..]n` for what stands n times.
-use crate::buffers::{ARGUMENTS, END, NUMBERS, RECORD_WORDS, STATE, WORDS, get, set};
-use std::num::{wrapping_add_u32, wrapping_sub_u32};
+use crate::buffers::{ARGUMENTS, END, NUMBERS, RECORD_WORDS, STATE, Words};
 
-// What has been read of a line: its first byte (a line feed, as long as there is none), where its next number goes, where the last bracket
-// opened, the number that is being read, whether it has a digit yet, and whether it says how often the group stands.
+// What has been read of a line: its first byte, where its next number goes, where the last bracket opened, the number that is being read, whether it
+// has a digit yet, and whether it says how often the group stands.
 #[derive(Clone, Copy)]
-pub(crate) struct Reading {
+pub(crate) struct Line {
     pub(crate) letter: u8,
     pub(crate) next: u32,
-    pub(crate) group: u32,
-    pub(crate) value: u32,
-    pub(crate) open: bool,
-    pub(crate) times: bool,
+    group: u32,
+    value: u32,
+    open: bool,
+    times: bool,
 }
 
 // Where the first of a line's numbers goes.
@@ -25,74 +24,69 @@ pub(crate) fn place_of(letter: u8) -> u32 {
     }
 }
 
-// A line of which the first byte is read.
-pub(crate) fn begun(letter: u8) -> Reading {
-    Reading {
-        letter,
-        next: place_of(letter),
-        group: 0,
-        value: 0,
-        open: false,
-        times: false,
-    }
-}
-
-// The value of a digit of document 01's hexadecimal numbers, or 16: a small letter is none, so that the words of a line are no numbers.
-fn digit(byte: u8) -> u32 {
+// The value of a digit of document 01's hexadecimal numbers: a small letter is none, so that the words of a line are no numbers.
+fn digit(byte: u8) -> Option<u32> {
     match byte {
-        b'0'..=b'9' => (byte - 48) as u32,
-        b'A'..=b'F' => (byte - 55) as u32,
-        _ => 16,
+        b'0'..=b'9' => Some((byte - b'0') as u32),
+        b'A'..=b'F' => Some((byte - b'A') as u32 + 10),
+        _ => None,
     }
 }
 
 // Goes on with a group until it stands so many times in all, and answers the place behind it.
-fn repeat(group: u32, next: u32, times: u32, words: &mut [u32; WORDS]) -> u32 {
-    let size = wrapping_sub_u32(next, group);
-    let mut to = next;
+fn repeat(group: u32, next: u32, times: u32, words: &mut Words) -> u32 {
+    let size = next.wrapping_sub(group);
     if size == 0 {
         return next;
     }
-    while to < END && wrapping_sub_u32(to, group) / size < times {
-        let x = get(wrapping_sub_u32(to, size), words);
-        set(to, x, words);
-        to += 1;
+    for to in next..END {
+        if to.wrapping_sub(group) / size >= times {
+            return to;
+        }
+        words.set(to, words.get(to.wrapping_sub(size)));
     }
-    to
+    next.max(END)
 }
 
-// What becomes of a number that has come to its end, if there is one. Answers where the next one goes.
-fn put_number(r: Reading, words: &mut [u32; WORDS]) -> u32 {
-    if !r.open {
-        return r.next;
+impl Line {
+    // A line of which the first byte is read.
+    pub(crate) fn begun(letter: u8) -> Line {
+        Line {
+            letter,
+            next: place_of(letter),
+            group: 0,
+            value: 0,
+            open: false,
+            times: false,
+        }
     }
-    if r.times {
-        return repeat(r.group, r.next, r.value, words);
-    }
-    set(r.next, r.value, words);
-    wrapping_add_u32(r.next, 1)
-}
 
-pub(crate) fn pick(first: bool, a: u32, b: u32) -> u32 {
-    if first { a } else { b }
-}
-
-// One byte more of a line that is begun.
-pub(crate) fn feed(r: Reading, byte: u8, words: &mut [u32; WORDS]) -> Reading {
-    let d = digit(byte);
-    if d < 16 {
-        let mut s = r;
-        s.value = (r.value << 4) | d;
-        s.open = true;
-        return s;
+    // What becomes of a number that has come to its end, if there is one.
+    fn put_number(&mut self, words: &mut Words) {
+        if !self.open {
+            return;
+        }
+        if self.times {
+            self.next = repeat(self.group, self.next, self.value, words);
+        } else {
+            words.set(self.next, self.value);
+            self.next = self.next.wrapping_add(1);
+        }
     }
-    let next = put_number(r, words);
-    Reading {
-        letter: r.letter,
-        next,
-        group: pick(byte == b'[', next, r.group),
-        value: 0,
-        open: false,
-        times: byte == b']',
+
+    // One byte more of a line that is begun.
+    pub(crate) fn feed(&mut self, byte: u8, words: &mut Words) {
+        if let Some(d) = digit(byte) {
+            self.value = (self.value << 4) | d;
+            self.open = true;
+            return;
+        }
+        self.put_number(words);
+        if byte == b'[' {
+            self.group = self.next;
+        }
+        self.value = 0;
+        self.open = false;
+        self.times = byte == b']';
     }
 }
