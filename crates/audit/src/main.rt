@@ -11,7 +11,7 @@ use clauses::{Detail, Unread};
 use json_lines::Totals;
 use lines::{LINE_BYTES, NAME_BYTES, put_text};
 use members::{Number, Outcome};
-use outside::output::{Outputs, Told, tell_failure};
+use outside::output::{Outputs, Told};
 use outside::{arguments, descriptors, files, input};
 use reports::judge::Judge;
 use reports::{MOST_BYTES, Status, base_choice, has_letter};
@@ -470,8 +470,7 @@ impl<O: Write, E: Write> Report<O, E> {
 
     // Says that no more names can be read.
     fn names_lost(&mut self, failure: io::Error) -> Told {
-        let what = b"lungevati: the names could not be read";
-        let _ = tell_failure(&mut self.to.messages, what, failure);
+        self.to.complain(b"the names could not be read", failure);
         Told
     }
 }

@@ -76,16 +76,15 @@ impl<O: Write, E: Write> Outputs<O, E> {
         ensures whole { OnOk result (Appends (O.contents self.old.printout) (O.contents self.new.printout) text.now) }
     {
         if let Err(why) = write_all(&mut self.printout, text) {
-            let what = b"lungevati: the output could not be written";
-            let _ = tell_failure(&mut self.messages, what, why);
+            self.complain(b"the output could not be written", why);
             return Err(Told);
         }
         Ok(())
     }
 
-    // Says that a file was not read, and why.
-    pub fn complain(&mut self, name: &[u8], why: io::Error) {
+    // Says what failed, as the name of a file that was not read, and why.
+    pub fn complain(&mut self, what: &[u8], why: io::Error) {
         let _ = write_all(&mut self.messages, b"lungevati: ");
-        let _ = tell_failure(&mut self.messages, name, why);
+        let _ = tell_failure(&mut self.messages, what, why);
     }
 }
