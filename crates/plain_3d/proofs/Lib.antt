@@ -1,3 +1,4 @@
 pub mod BitsOnly
 pub mod Rows
 pub mod Bases
+pub mod FourBits

@@ -25,15 +25,14 @@ use Rattle.rules.specs.Step.{header_at, row_at, nested}
 use Rattle.rules.proofs.Trying.{refuse_passes}
 use Rattle.looks.specs.Looks.{content_of, own_of, look_of}
 use Rattle.looks.proofs.LookLaws.{both_pass}
-use Rattle.plain_shared.specs.Plain.{coded, wrong_of, bare_of, no_windows}
+use Rattle.plain_shared.specs.Plain.{as_number, coded, wrong_of, bare_of, no_windows}
 use Rattle.plain_shared.proofs.Bare.{Unasked, bare}
 use Rattle.plain_shared.proofs.Bounds.{AllNear, near_at, fault_near, verdict_of, verdict_near, Told, told, wrong_passes}
 use Rattle.plain_shared.proofs.Coding.{coded_passes}
 use Rattle.rules.proofs.Used.{header_bits}
 use Rattle.plain_shared.proofs.Headers.{one_dword}
 use Rattle.plain_shared.proofs.Placing.{placed, own_placed, told_placed}
-use Rattle.plain_look.specs.declared.Seen.{Seen}
-use Rattle.plain_look.specs.Seeing.{OfType3, Sees}
+use Rattle.plain_look.specs.Seeing.{OfType3, Seen, Sees}
 
 -- what is left of a batch is all that comes behind a position
 pub rest_is : (batch : List ℕ) (at : ℕ) → take (length batch - at) (drop at batch) ≡ drop at batch
@@ -91,8 +90,8 @@ module _ (w : Windows) (batch : List ℕ) (at : ℕ) (level : Level) (r : ℕ) (
       not-false _ (refuse_passes _ _ (both_pass first _ (wrong_passes w r (drop at batch) level z)).0) in
       rw (header_first batch at) at right
 
-  pub sees : (s : Seen) → s.row ≡ r → (length_right r (header_at batch at) ≡ true → s.length ≡ length_of r (header_at batch at))
-      → s.wrong ≡ wrong_of w r (drop at batch) level → Sees w batch at level s
+  pub sees : (s : Seen) → s.0 ≡ r → (length_right r (header_at batch at) ≡ true → s.1 ≡ length_of r (header_at batch at))
+      → (as_number s.2) ≡ wrong_of w r (drop at batch) level → Sees w batch at level s
   sees s named counted answered = record {
     wrong = answered ∙ rw (e, lt-leb row_count r known);
     row = λ z. named ∙ sym e;
@@ -100,19 +99,19 @@ module _ (w : Windows) (batch : List ℕ) (at : ℕ) (level : Level) (r : ℕ) (
   }
 
   -- by a function that is given windows, by one that needs none, and by one that needs no more than the header
-  pub sees_within : (s : Seen) {len answer : ℕ} {rest : List ℕ} → (s.row ≡ r) × (s.length ≡ len) × (s.wrong ≡ answer)
+  pub sees_within : (s : Seen) {len answer : ℕ} {rest : List ℕ} → (s.0 ≡ r) × (s.1 ≡ len) × ((as_number s.2) ≡ answer)
       → (length_right r (header_at batch at) ≡ true → len ≡ length_of r (header_at batch at)) → answer ≡ wrong_of w r rest level
       → rest ≡ drop at batch → Sees w batch at level s
   sees_within s found counted says lent =
       sees s found.0 (λ q. found.1 ∙ counted q) (found.2 ∙ says ∙ ap (λ (l : List ℕ). wrong_of w r l level) lent)
 
-  pub sees_bare : (s : Seen) {len answer : ℕ} {rest : List ℕ} → (s.row ≡ r) × (s.length ≡ len) × (s.wrong ≡ answer)
+  pub sees_bare : (s : Seen) {len answer : ℕ} {rest : List ℕ} → (s.0 ≡ r) × (s.1 ≡ len) × ((as_number s.2) ≡ answer)
       → (length_right r (header_at batch at) ≡ true → len ≡ length_of r (header_at batch at)) → answer ≡ bare_of r rest
       → rest ≡ drop at batch → Unasked r → nested r level ≡ false → Sees w batch at level s
   sees_bare s {rest = rest} found counted says lent unasked n =
       sees_within s found counted (says ∙ sym (bare r unasked w level n rest)) lent
 
-  pub sees_alone : (s : Seen) {answer header : ℕ} → (s.row ≡ r) × (s.length ≡ 1) × (s.wrong ≡ answer)
+  pub sees_alone : (s : Seen) {answer header : ℕ} → (s.0 ≡ r) × (s.1 ≡ 1) × ((as_number s.2) ≡ answer)
       → answer ≡ bare_of r (header ∷ []) → header ≡ header_at batch at → at < length batch → (the_row r).total ≡ no_field → rule_of r ≡ no_rule
       → access_of r ≡ no_use → nested r level ≡ false → Sees w batch at level s
   sees_alone s found says first h total rule uses n =
@@ -131,7 +130,7 @@ sees_at_level w batch at level s t p = record {
 }
 
 -- a header that no row has
-pub sees_nothing : (w : Windows) (batch : List ℕ) (at : ℕ) (level : Level) (s : Seen) → row_count ≡ row_at batch at → s.wrong ≡ 1792
+pub sees_nothing : (w : Windows) (batch : List ℕ) (at : ℕ) (level : Level) (s : Seen) → row_count ≡ row_at batch at → (as_number s.2) ≡ 1792
     → Sees w batch at level s
 sees_nothing w batch at level s e u = record {
   wrong = u ∙ rw (le-leb row_count (row_at batch at) (omega arith));
@@ -142,7 +141,7 @@ sees_nothing w batch at level s e u = record {
 -- 7 to 13 of the command, with the place counted from its header: what is seen is their number, and the look is what they say at the position
 record Judged (w : Windows) (batch : List ℕ) (at : ℕ) (level : Level) (s : Seen) : Type 0 where
   verdict : Verdict
-  number : s.wrong ≡ coded verdict
+  number : (as_number s.2) ≡ coded verdict
   there : own_of w batch at level ≡ placed at verdict
   near : AllNear verdict
 
@@ -165,19 +164,19 @@ module _ (w : Windows) (batch : List ℕ) (at : ℕ) (level : Level) (h : at < l
         near = verdict_near w (row_at batch at) (drop at batch) level (leb-false _ _ e);
       }
 
-  pub look_whole : s.wrong ≡ 0 → Ok (s.row, s.length) ≡ look_of w batch at level
+  pub look_whole : (as_number s.2) ≡ 0 → Ok (s.0, s.1) ≡ look_of w batch at level
   unfolding look_of placed
   look_whole z =
       let passes = coded_passes judged.verdict (sym judged.number ∙ z) in
       rw (p.row z, p.long z, judged.there, passes)
 
-  fault_told : (s.wrong ≡ 0 → ⊥) → Told judged.verdict
+  fault_told : ((as_number s.2) ≡ 0 → ⊥) → Told judged.verdict
   fault_told n = told judged.verdict judged.near (λ z. n (judged.number ∙ z))
 
-  pub answer_bounded : (s.wrong ≡ 0 → ⊥) → (7 * 256 ≤ s.wrong) × (s.wrong < 14 * 256)
+  pub answer_bounded : ((as_number s.2) ≡ 0 → ⊥) → (7 * 256 ≤ (as_number s.2)) × ((as_number s.2) < 14 * 256)
   answer_bounded n = rw judged.number ((fault_told n).least, (fault_told n).most)
 
-  pub look_wrong : (s.wrong ≡ 0 → ⊥) → (g : Fault) → (number_of g.reason ≡ s.wrong / 256) × (g.window ≡ batch_window) × (g.index ≡ at + s.wrong % 256)
+  pub look_wrong : ((as_number s.2) ≡ 0 → ⊥) → (g : Fault) → (number_of g.reason ≡ (as_number s.2) / 256) × (g.window ≡ batch_window) × (g.index ≡ at + (as_number s.2) % 256)
       → Err g ≡ look_of w batch at level
   unfolding look_of
   look_wrong n g e =

@@ -1,7 +1,7 @@
 -- Laws of answers as one number, 0 being "nothing": one verdict, two behind each other, and the first dword that a test finds.
 -- Assumes nothing.
 use Rattle.std.specs.Prelude.{Ok, Err, Option, Some, None}
-use Prim.Native.Nat.{ℕ, suc, ◌+◌, ◌*◌, ◌≤◌, ◌<◌}
+use Prim.Native.Nat.{ℕ, zero, suc, ◌+◌, ◌*◌, ◌≤◌, ◌<◌}
 use native.Mathlib.Omega.{arith}
 use mathlib.Core.Path.{◌≡◌, refl, ap, ◌∙◌}
 use mathlib.Core.Bool.{Bool, true, false}
@@ -64,3 +64,11 @@ module _ (reason : Reason) (bad : ℕ → Bool) where
   -- where there is no first, no dword of them is one
   pub no_fault : (k n : ℕ) → first_coded reason bad k n ≡ 0 → (i : ℕ) → k ≤ i → i < k + n → bad i ≡ false
   no_fault k n e = none_found bad k n (coded_nothing k n e)
+
+  pub no_first : (k n : ℕ) → ((i : ℕ) → k ≤ i → i < k + n → bad i ≡ false) → first_coded reason bad k n ≡ 0
+  no_first k zero h = none_left k
+  no_first k (suc n) h = not_first k n (h k (omega arith) (omega arith)) ∙ no_first (k + 1) n (λ i a b. h i (omega arith) (omega arith))
+
+  -- nor is one of a part of them
+  pub part_passes : (k n j m : ℕ) → k ≤ j → j + m ≤ k + n → first_coded reason bad k n ≡ 0 → first_coded reason bad j m ≡ 0
+  part_passes k n j m h l e = no_first j m (λ i a b. no_fault k n e i (omega arith) (omega arith))

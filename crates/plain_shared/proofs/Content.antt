@@ -5,34 +5,20 @@ use native.Mathlib.Omega.{arith}
 use mathlib.Core.Path.{◌≡◌, sym, ap, ◌∙◌}
 use mathlib.Core.Bool.{Bool, true, false}
 use mathlib.Core.List.{List}
-use mathlib.Core.Logic.{⊎_elim}
-use lib.Dec.{eqb}
 use lib.ListN.{length}
-use borrow.Author.Tests.{eqb-true, eqb-false}
 use Rattle.rules.specs.declared.Level.{Level}
 use Rattle.rules.specs.declared.Reason.{Reason}
 use Rattle.rules.specs.declared.Reason.TheVariants.{BitNotAllowed, ValueBroken, RangeOutside}
 use Rattle.rules.specs.declared.Windows.{Windows}
 use Rattle.rules.specs.Words.{first_from}
 use Rattle.rules.specs.Refusals.{batch_window, refuse_found, number_of}
-use Rattle.rules.specs.Uses.{no_use, access_of}
 use Rattle.rules.specs.Masks.{bit_wrong}
 use Rattle.rules.specs.Values.{value_wrong}
 use Rattle.rules.specs.Addresses.{range_wrong}
-use Rattle.rules.specs.Step.{nested}
-use Rattle.rules.proofs.Searching.{either}
 use Rattle.looks.specs.Looks.{or_else, content_of}
-use Rattle.plain_shared.specs.Plain.{coded, first_coded, first_by, free_from, clean_from}
+use Rattle.plain_shared.specs.Plain.{coded, first_coded, first_by, clean_from, HeaderRight}
 use Rattle.plain_shared.proofs.Coding.{first_says, second_says, is_first, not_first}
-use Rattle.plain_shared.proofs.Cleanness.{free_coded, clean_bits, clean_values, clean_ranges, no_ranges}
-
--- a header in order: no bit, no value and no range is wrong there, and the command is no start in a second-level batch
-pub record HeaderRight (w : Windows) (r : ℕ) (d : List ℕ) (level : Level) : Type 0 where
-  pub some : 0 < length d
-  pub bits : bit_wrong r d 0 ≡ false
-  pub value : value_wrong r d 0 ≡ false
-  pub range : range_wrong w r d 0 ≡ false
-  pub quiet : nested r level ≡ false
+use Rattle.plain_shared.proofs.Cleanness.{clean_bits, clean_values, clean_ranges}
 
 -- a header with a wrong bit
 pub header_says : (w : Windows) (r : ℕ) (d : List ℕ) (level : Level) → 0 < length d → bit_wrong r d 0 ≡ true
@@ -81,34 +67,22 @@ module _ {w : Windows} {r : ℕ} {d : List ℕ} {level : Level} (h : HeaderRight
         ∙ second_says _ _ (behind ValueBroken (value_wrong r d) h.value ∙ f)
         ∙ behind RangeOutside (range_wrong w r d) h.range
 
-    -- where there is no address, 12 says all that is left
-    value_decides : free_from (range_wrong w r d) 1 (length d - 1) ≡ true
-        → coded (content_of w r d 0 level) ≡ first_coded ValueBroken (value_wrong r d) 1 (length d - 1)
-    value_decides free =
-        ⊎_elim (λ p. let z = eqb-true _ _ p in range_says z ∙ free_coded _ _ 1 (length d - 1) free ∙ sym z)
-        (λ p. value_says (eqb-false _ _ p))
-        (either (eqb (first_coded ValueBroken (value_wrong r d) 1 (length d - 1)) 0))
-
   -- the same of what the code has asked of the groups: nothing is wrong with them, or the first 10, the first 12, the first 13
   pub all_clean : {x : Bool} → x ≡ clean_from w r d 1 (length d - 1) → x ≡ true → 0 ≡ coded (content_of w r d 0 level)
   all_clean e z =
       let clean = sym e ∙ z in
       sym (range_says (clean_bits w r d 1 _ clean) (clean_values w r d 1 _ clean) ∙ clean_ranges w r d 1 _ clean)
 
-  module _ {x : ℕ} (e : x ≡ first_by w r d 10 1 (length d - 1)) where
+  module _ {x : ℕ} (e : x ≡ first_by w r d BitNotAllowed 1 (length d - 1)) where
     pub bit_first : (x ≡ 0 → ⊥) → x ≡ coded (content_of w r d 0 level)
     unfolding first_by
     bit_first n = e ∙ sym (bit_says (λ z. n (e ∙ z)))
 
-    module _ (z : x ≡ 0) {y : ℕ} (f : y ≡ first_by w r d 12 1 (length d - 1)) where
+    module _ (z : x ≡ 0) {y : ℕ} (f : y ≡ first_by w r d ValueBroken 1 (length d - 1)) where
       pub value_first : (y ≡ 0 → ⊥) → y ≡ coded (content_of w r d 0 level)
       unfolding first_by
       value_first n = f ∙ sym (value_says (sym e ∙ z) (λ q. n (f ∙ q)))
 
-      pub value_last : access_of r ≡ no_use → y ≡ coded (content_of w r d 0 level)
-      unfolding first_by
-      value_last uses = f ∙ sym (value_decides (sym e ∙ z) (no_ranges w r d uses 1 _))
-
-      pub range_last : y ≡ 0 → {v : ℕ} → v ≡ first_by w r d 13 1 (length d - 1) → v ≡ coded (content_of w r d 0 level)
+      pub range_last : y ≡ 0 → {v : ℕ} → v ≡ first_by w r d RangeOutside 1 (length d - 1) → v ≡ coded (content_of w r d 0 level)
       unfolding first_by
       range_last q g = g ∙ sym (range_says (sym e ∙ z) (sym f ∙ q))

@@ -1,21 +1,19 @@
 -- Laws of a loop over whole groups, for any size, any test, and both kinds of answer: a yes or no, and the first fault's number.
 -- Assumes nothing.
 use Prim.Native.Nat.{ℕ, zero, suc, ◌+◌, ◌-◌, ◌*◌, ◌/◌, ◌%◌, ◌≤◌, ◌<◌}
-use native.Mathlib.Nat.{lt_of_mul-lt-mul_right, mul-le-mul_right, mul-add-mod_self_right, mod_self, zero-mod, div-add-mod', add-zero}
+use native.Mathlib.Nat.{lt_of_mul-lt-mul_right, mul-le-mul_right, mul-add-mod_self_right, mod_self, div-add-mod', add-zero}
 use native.Mathlib.Omega.{arith}
 use mathlib.Core.Path.{◌≡◌, refl, sym, ap, ◌∙◌}
-use mathlib.Core.Bool.{Bool, true, false, cond, not}
+use mathlib.Core.Bool.{Bool, true, false}
 use mathlib.Core.List.{List}
 use mathlib.Core.Logic.{⊎_elim}
-use lib.Dec.{eqb}
-use borrow.Author.Tests.{not-true, not-false}
 use Rattle.rules.specs.declared.Reason.{Reason}
 use Rattle.rules.specs.declared.Reason.TheVariants.{BitNotAllowed, ValueBroken, RangeOutside}
 use Rattle.rules.specs.declared.Windows.{Windows}
 use Rattle.rules.specs.Masks.{bit_wrong}
 use Rattle.rules.specs.Values.{value_wrong}
 use Rattle.rules.specs.Addresses.{range_wrong}
-use Rattle.rules.proofs.Searching.{either, never_both}
+use Rattle.rules.proofs.Searching.{either}
 use Rattle.rules.proofs.Unique.{above_zero}
 use Rattle.plain_shared.specs.Plain.{first_coded, first_by, free_from}
 use Rattle.plain_shared.proofs.Coding.{is_first, not_first, none_left}
@@ -68,16 +66,12 @@ module _ (reason : Reason) (bad : ℕ → Bool) where
   pub first_in_order : InOrder 0 (first_coded reason bad)
   first_in_order = record { of_none = none_left reason bad; behind = first_behind; ahead = first_ahead }
 
--- the same by the check's number
-pub by_number : (w : Windows) (r : ℕ) (d : List ℕ) (number : ℕ) → InOrder 0 (first_by w r d number)
+-- the same by the check's reason: 10, 12, and 13 for any other
+pub by_reason : (w : Windows) (r : ℕ) (d : List ℕ) (reason : Reason) → InOrder 0 (first_by w r d reason)
 unfolding first_by
-by_number w r d number = by (eqb number 10) (eqb number 12)
-  where
-    by : (a b : Bool) → InOrder 0 (λ k n. cond a (first_coded BitNotAllowed (bit_wrong r d) k n)
-        (cond b (first_coded ValueBroken (value_wrong r d) k n) (first_coded RangeOutside (range_wrong w r d) k n)))
-    by true b = first_in_order BitNotAllowed (bit_wrong r d)
-    by false true = first_in_order ValueBroken (value_wrong r d)
-    by false false = first_in_order RangeOutside (range_wrong w r d)
+by_reason w r d BitNotAllowed = first_in_order BitNotAllowed (bit_wrong r d)
+by_reason w r d ValueBroken = first_in_order ValueBroken (value_wrong r d)
+by_reason w r d other = first_in_order RangeOutside (range_wrong w r d)
 
 -- a yes or no
 module _ (bad : ℕ → Bool) where
@@ -146,9 +140,6 @@ pub record AtGroup {A : Type 0} (said : ℕ → ℕ → A) (size n k : ℕ) : Ty
   pub start : (k - 1) % size ≡ 0
   pub rest : said 1 (n - 1) ≡ said k (n - k)
 
-pub at_first_lem : {A : Type 0} (said : ℕ → ℕ → A) (size n : ℕ) → 0 < n → AtGroup said size n 1
-at_first_lem said size n h = record { from = omega arith; within = h; start = zero-mod size; rest = refl }
-
 -- a whole group stands there
 pub record Turn {A : Type 0} (said : ℕ → ℕ → A) (size n k : ℕ) : Type 0 where
   pub at : AtGroup said size n k
@@ -180,19 +171,3 @@ module _ {A : Type 0} {said : ℕ → ℕ → A} {size n k : ℕ} {pass : A} (o 
   -- or there is none left
   pub all_passed : AtGroup said size n k → n ≤ k → pass ≡ said 1 (n - 1)
   all_passed a h = let p : n - k ≡ 0 = omega arith in sym (a.rest ∙ ap (said k) p ∙ o.of_none k)
-
--- a yes or no, where one group says no, or yes
-module _ {said : ℕ → ℕ → Bool} {size n k : ℕ} (o : InOrder true said) (t : Turn said size n k) where
-  pub fails_there : said k size ≡ false → false ≡ said 1 (n - 1)
-  fails_there e = stops o t (sym e) (λ z. never_both z refl)
-
-  pub clean_there : said k size ≡ true → AtGroup said size n (k + size)
-  clean_there e = goes_on o t (sym e) refl
-
--- and one that the code asks negated
-module _ {said : ℕ → ℕ → Bool} {size n k : ℕ} (o : InOrder true said) (t : Turn said size n k) {x : Bool} (e : x ≡ said k size) where
-  pub yes_goes_on : not x ≡ false → AtGroup said size n (k + size)
-  yes_goes_on z = goes_on o t e (not-false x z)
-
-  pub no_stops : not x ≡ true → false ≡ said 1 (n - 1)
-  no_stops z = let no = not-true x z in sym no ∙ stops o t e (λ y. never_both y no)

@@ -13,3 +13,4 @@ pub mod Dwords
 pub mod Grouping
 pub mod OfGroups
 pub mod Whole
+pub mod Answering

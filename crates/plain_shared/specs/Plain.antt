@@ -1,5 +1,5 @@
 -- What the plain engine's functions answer: a fault as one number.
-use Rattle.std.specs.Prelude.{ℕ, zero, suc, ◌+◌, ◌-◌, ◌*◌, ◌%◌, ◌≤◌, ◌<◌, ◌≡◌, Bool, true, false, cond, not, ◌&&◌, ◌||◌, List, length, get_or, take, ltb, eqb, Ok, Err}
+use Rattle.std.specs.Prelude.{Result, Ok, Err, ℕ, zero, suc, ◌+◌, ◌-◌, ◌*◌, ◌%◌, ◌≤◌, ◌<◌, ◌≡◌, Bool, true, false, cond, not, ◌&&◌, ◌||◌, List, length, get_or, take, ltb, eqb}
 use Rattle.rules.specs.declared.Windows.{Windows}
 use Rattle.rules.specs.declared.Level.{Level}
 use Rattle.rules.specs.declared.Level.TheVariants.{First}
@@ -13,9 +13,16 @@ use Rattle.rules.specs.Commands.{store_register_row, groups, field_right, length
 use Rattle.rules.specs.Masks.{bit_wrong}
 use Rattle.rules.specs.Values.{value_wrong}
 use Rattle.rules.specs.Addresses.{range_wrong}
+use Rattle.rules.specs.Step.{nested}
 use Rattle.looks.specs.Looks.{or_else, content_of}
+use Rattle.plain_shared.specs.declared.wrong.Wrong.{Wrong}
 
--- a verdict whose place counts from the command's header, as one number: the refusal's number * 256 + the dword's number, and 0 for none
+-- what a row's function answers, as one number: 0 where nothing is wrong
+abbrev pub as_number : Result Unit Wrong → ℕ
+as_number (Ok t) = 0
+as_number (Err e) = e.code
+
+-- a verdict whose place counts from the command's header, as such a number: the refusal's number * 256 + the dword's number, and 0 for none
 unfoldable pub coded : Verdict → ℕ
 coded (Ok _) = 0
 coded (Err f) = 256 * number_of f.reason + f.index
@@ -70,11 +77,11 @@ register_of d header =
     (coded (or_else (refuse_found BitNotAllowed batch_window 0 (first_from (bit_wrong store_register_row d) 1 3))
     (refuse_found ValueBroken batch_window 0 (first_from (value_wrong store_register_row d) 1 3))))
 
--- the first fault that one check finds in the n dwords from k on, by the check's number: 10, 12, and 13 for any other
-unfoldable pub first_by : Windows → ℕ → List ℕ → ℕ → ℕ → ℕ → ℕ
-first_by w r d number k n =
-    cond (eqb number 10) (first_coded BitNotAllowed (bit_wrong r d) k n)
-    (cond (eqb number 12) (first_coded ValueBroken (value_wrong r d) k n) (first_coded RangeOutside (range_wrong w r d) k n))
+-- the first fault that one check finds in the n dwords from k on, by the check's reason: 10, 12, and 13 for any other
+unfoldable pub first_by : Windows → ℕ → List ℕ → Reason → ℕ → ℕ → ℕ
+first_by w r d BitNotAllowed k n = first_coded BitNotAllowed (bit_wrong r d) k n
+first_by w r d ValueBroken k n = first_coded ValueBroken (value_wrong r d) k n
+first_by w r d other k n = first_coded RangeOutside (range_wrong w r d) k n
 
 -- the test finds none of the n numbers from k on: `first_from` as a yes or no
 unfoldable pub free_from : (ℕ → Bool) → ℕ → ℕ → Bool
@@ -96,3 +103,11 @@ Groups size d = (0 < length d) × ((length d - 1) % size ≡ 0)
 -- a whole group of `size` dwords starts at k
 abbrev pub GroupAt : ℕ → List ℕ → ℕ → Type 0
 GroupAt size d k = (1 ≤ k) × (k + size ≤ length d) × ((k - 1) % size ≡ 0)
+
+-- a header in order: no bit, no value and no range is wrong there, and the command is no start in a second-level batch
+pub record HeaderRight (w : Windows) (r : ℕ) (d : List ℕ) (level : Level) : Type 0 where
+  pub some : 0 < length d
+  pub bits : bit_wrong r d 0 ≡ false
+  pub value : value_wrong r d 0 ≡ false
+  pub range : range_wrong w r d 0 ≡ false
+  pub quiet : nested r level ≡ false

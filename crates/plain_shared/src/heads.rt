@@ -3,9 +3,10 @@ ghost use Rattle.std.specs.Prelude.{◌≡◌, not, ◌&&◌, ◌||◌, ◌+◌,
 ghost use Rattle.rules.specs.Words.{field, allowed};
 ghost use Rattle.rules.specs.Uses.{pair_address, canonical, sized};
 ghost use Rattle.rules.specs.Addresses.{access_wrong};
-ghost use Rattle.plain_shared.specs.Plain.{other_header, whole_header, groups_header};
+ghost use Rattle.plain_shared.specs.Plain.{as_number, other_header, whole_header, groups_header};
 
-use crate::numbers::{BIT, LENGTH, NOTHING, PAST, at};
+use crate::wrong::Wrong;
+use rules::Reason::{BitNotAllowed, PastTheWindow, WrongLength};
 use rules::Windows;
 use windows::anywhere;
 use words::allowed;
@@ -20,53 +21,53 @@ pub fn length_by_field(header: u32) -> usize
 
 // 8, 9 or 10 of a command whose header is not the table's, by the field that its row wants: the field is wrong, or the command goes past the
 // window, or a bit of its header is not allowed.
-pub fn other_header(rest: &[u32], field: u32) -> usize
+pub fn other_header(rest: &[u32], field: u32) -> Result<(), Wrong>
     requires { (0 < length rest.now) × («field» < 256) }
-    ensures { result ≡ other_header rest.now «field» }
+    ensures { as_number result ≡ other_header rest.now «field» }
 {
     if rest[0] % 256 != field {
-        return at(LENGTH, 0);
+        return Err(Wrong::at(WrongLength, 0));
     }
     if rest.len() < field as usize + 2 {
-        return at(PAST, 0);
+        return Err(Wrong::at(PastTheWindow, 0));
     }
-    at(BIT, 0)
+    Err(Wrong::at(BitNotAllowed, 0))
 }
 
 // 8, 9, and 10 at the header, of a row with one length whose header has no free bits.
-pub fn whole_header(rest: &[u32], header: u32) -> usize
+pub fn whole_header(rest: &[u32], header: u32) -> Result<(), Wrong>
     requires { 0 < length rest.now }
-    ensures { result ≡ whole_header rest.now header }
+    ensures { as_number result ≡ whole_header rest.now header }
 {
     if rest[0] != header {
         return other_header(rest, header % 256);
     }
     if rest.len() < length_by_field(header) {
-        return at(PAST, 0);
+        return Err(Wrong::at(PastTheWindow, 0));
     }
-    NOTHING
+    Ok(())
 }
 
 // 8, 9, and 10 at the header, of a row of groups: "field 2n-1, n 1..64" with groups of 2 dwords, 64 at most.
-pub fn groups_header(rest: &[u32], key: u32, size: u32, most: u32) -> usize
+pub fn groups_header(rest: &[u32], key: u32, size: u32, most: u32) -> Result<(), Wrong>
     requires { (0 < length rest.now) × (0 < size) }
-    ensures { result ≡ groups_header rest.now key size most }
+    ensures { as_number result ≡ groups_header rest.now key size most }
 {
     let header = rest[0];
     let field = header % 256;
     if (field + 1) % size != 0 {
-        return at(LENGTH, 0);
+        return Err(Wrong::at(WrongLength, 0));
     }
     if most < (field + 1) / size {
-        return at(LENGTH, 0);
+        return Err(Wrong::at(WrongLength, 0));
     }
     if rest.len() < length_by_field(header) {
-        return at(PAST, 0);
+        return Err(Wrong::at(PastTheWindow, 0));
     }
     if header - field != key {
-        return at(BIT, 0);
+        return Err(Wrong::at(BitNotAllowed, 0));
     }
-    NOTHING
+    Ok(())
 }
 
 // 10 of a high dword: "high dwords of addresses not used .. are as before".
@@ -81,6 +82,21 @@ pub fn high_right(used: bool, high: u32) -> bool
     ensures { result ≡ not (used && not (canonical high)) }
 {
     !used || canonical(high)
+}
+
+// The same where the address is mostly below 2^47: a high dword below 8000h keeps its mask and is canonical, so that, asked for first, it needs no other test.
+#[tactic(auto, using(crate::proofs::LowAddresses::low_kept_anyway))]
+pub fn low_or_kept(used: bool, high: u32) -> bool
+    ensures { result ≡ (used || allowed high 0x0000FFFF) }
+{
+    high <= 0x7FFF || high_kept(used, high)
+}
+
+#[tactic(auto, using(crate::proofs::LowAddresses::low_right_anyway))]
+pub fn low_or_right(used: bool, high: u32) -> bool
+    ensures { result ≡ not (used && not (canonical high)) }
+{
+    high <= 0x7FFF || high_right(used, high)
 }
 
 // "size not 0: the range in one window".

@@ -1,5 +1,6 @@
-// The plain engine: what all its rows share, the header's checks and the numbers that a row answers with.
+// The plain engine: what all its rows share, the header's checks, the search through groups, and what a row answers.
 #![tactic(auto)]
 
+pub mod groups;
 pub mod heads;
-pub mod numbers;
+pub mod wrong;

@@ -7,6 +7,7 @@ use borrow.Author.Rules.{rules}
 use Rattle.rules.specs.declared.Reason.TheVariants.{ValueBroken}
 use Rattle.rules.specs.Commands.{base_row}
 use Rattle.rules.specs.Values.{value_wrong}
+use Rattle.rules.specs.Refusals.{number_of}
 use Rattle.plain_shared.specs.Plain.{first_coded}
 use Rattle.plain_shared.proofs.Tests.{asked, answered, refuses, passes}
 use Rattle.plain_3d.proofs.Bases.{value_tests, values_tested}
@@ -43,6 +44,7 @@ indirect : (c : tie.Else-not-base_right-4) → Left (from_4 c) 4
 indirect c = passes 3081 _ (asked c.base_right-4.ensures c.if-not-base_right-4.false-raw) (dynamic c.before.before.before.before)
 
 pub base_values_spec : {M : Type 1} → statement M
+unfolding number_of
 base_values_spec =
     tie.close
     (tie.spec (λ c. search rules) (λ c. search rules) (λ c κs. search rules) (λ c κs. search rules)

@@ -53,6 +53,7 @@ field_5 : (h : ℕ) → h - h / 256 % 8 * 256 ≡ 0x7B000005 → h % 256 ≡ 5
 field_5 h e = omega arith
 
 past : tie.Need-returns-then-rest-lt7
+unfolding number_of
 past c = c.at.ensures ∙ exact_past primitive_row 5 row _ _ _ (field_5 _ c.if-header-ne2063597573.false) c.if-rest-lt7.true
 
 bit : tie.Need-returns-then-not-allowed

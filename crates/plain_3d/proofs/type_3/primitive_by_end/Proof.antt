@@ -65,6 +65,7 @@ fifth_clear : (c : tie.Else-rest-ne0-2) → Left (start (header (bit (third c)))
 fifth_clear c = passes 3077 _ (ap not (eq-eqb _ _ c.if-rest-ne0-2.false)) (third_clear (third c))
 
 pub primitive_by_end_spec : {M : Type 1} → statement M
+unfolding number_of
 primitive_by_end_spec =
     tie.close
     (tie.spec (λ c κs. search rules)

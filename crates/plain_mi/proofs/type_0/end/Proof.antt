@@ -8,6 +8,7 @@ use Rattle.rules.specs.Words.{allowed}
 use Rattle.rules.specs.Commands.{end_row, rows, the_row}
 use Rattle.rules.specs.Uses.{uses_by_row, access_of}
 use Rattle.rules.specs.Values.{value_rules, rule_of}
+use Rattle.rules.specs.Refusals.{number_of}
 use Rattle.plain_shared.specs.Plain.{no_windows}
 use Rattle.rules.proofs.Used.{header_bits}
 use Rattle.plain_shared.proofs.Headers.{other_key, one_dword}
@@ -15,7 +16,7 @@ use Rattle.plain_mi.proofs.type_0.end.Statement.{statement}
 use Rattle.plain_mi.proofs.type_0.end.Tie as tie
 
 wrong_bit : tie.Need-returns-then-header-ne83886080
-unfolding rows the_row uses_by_row access_of value_rules rule_of
+unfolding rows the_row uses_by_row access_of value_rules rule_of number_of
 wrong_bit c =
     rw (
       one_dword no_windows end_row _ First refl refl refl refl (lit≤ tt),

@@ -7,6 +7,7 @@ use Rattle.rules.specs.declared.Level.TheVariants.{First}
 use Rattle.rules.specs.Commands.{noop_row, rows, the_row}
 use Rattle.rules.specs.Uses.{uses_by_row, access_of}
 use Rattle.rules.specs.Values.{value_rules, rule_of}
+use Rattle.rules.specs.Refusals.{number_of}
 use Rattle.plain_shared.specs.Plain.{no_windows}
 use Rattle.rules.proofs.Used.{header_bits}
 use Rattle.plain_shared.proofs.Headers.{one_dword}
@@ -14,7 +15,7 @@ use Rattle.plain_mi.proofs.type_0.noop.Statement.{statement}
 use Rattle.plain_mi.proofs.type_0.noop.Tie as tie
 
 wrong_bit : tie.Need-returns-then-not-allowed
-unfolding rows the_row uses_by_row access_of value_rules rule_of
+unfolding rows the_row uses_by_row access_of value_rules rule_of number_of
 wrong_bit c =
     let kept = c.before.before in
     rw (

@@ -28,6 +28,7 @@ decides c =
     (free_in set_registers_row refl _ _ s.requires 1 (omega arith) refl refl refl (c.shared_slice_known-1.given (k + 1)).fits)
 
 pub pair_bit_spec : {M : Type 1} → statement M
+unfolding number_of
 pair_bit_spec =
     tie.close
     (tie.spec (λ c. search rules) (λ c. search rules) (λ c κs. search rules) (λ c κs. search rules)

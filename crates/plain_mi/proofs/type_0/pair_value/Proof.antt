@@ -26,6 +26,7 @@ decides s =
     (value_in set_registers_row refl _ _ s.requires 1 (omega arith) refl refl)
 
 pub pair_value_spec : {M : Type 1} → statement M
+unfolding number_of
 pair_value_spec =
     tie.close
     (tie.spec (λ c. search rules) (λ c. search rules) (λ c κs. search rules) (λ c κs. search rules)

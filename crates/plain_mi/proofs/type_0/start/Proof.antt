@@ -7,6 +7,7 @@ use lib.ListN.{drop}
 use borrow.Author.Rules.{rules}
 use borrow.Author.Tests.{eq-eqb, ne_eqb}
 use Rattle.rules.specs.Commands.{start_row}
+use Rattle.rules.specs.Refusals.{number_of}
 use Rattle.plain_shared.specs.Plain.{wrong_of}
 use Rattle.plain_shared.proofs.Tests.{asked, answered, refuses, passes}
 use Rattle.plain_shared.proofs.Fitting.{batch_holds}
@@ -53,6 +54,7 @@ high_right_lem : (c : tie.Else-not-canonical) → Left (from_set c.before.before
 high_right_lem c = passes 3074 _ (asked c.canonical.ensures c.if-not-canonical.false-raw) (set c.before.before.before)
 
 outside : tie.Need-returns-then-not-holds
+unfolding number_of
 outside c =
     let fit = c.before.before in
     let made = fit.before in
@@ -67,6 +69,7 @@ nothing c =
     passes 3329 _ (asked fitting c.if-not-holds.false-raw) (high_right_lem made.before.before.before.before)
 
 pub start_spec : {M : Type 1} → statement M
+unfolding number_of
 start_spec =
     tie.close
     (tie.spec (λ c. search rules) (λ c κs. search rules) (λ c. c.at.ensures ∙ start_field _ _ _ c.if-header-ne1.true)

@@ -9,6 +9,7 @@ use borrow.Author.Rules.{rules}
 use borrow.Author.Tests.{eq-eqb, ne_eqb}
 use Rattle.rules.specs.declared.Level.TheVariants.{First}
 use Rattle.rules.specs.Commands.{store_row}
+use Rattle.rules.specs.Refusals.{number_of}
 use Rattle.plain_shared.specs.Plain.{wrong_of}
 use Rattle.plain_shared.proofs.Tests.{asked, answered, refuses, passes, own_past, own_answer}
 use Rattle.plain_shared.proofs.Fitting.{scratch_holds}
@@ -58,6 +59,7 @@ high_right_lem : (c : tie.Else-not-canonical) → Left (low (eights c)) 3
 high_right_lem c = passes 3074 _ (asked c.canonical.ensures c.if-not-canonical.false-raw) (aligned (eights c))
 
 pub store_eight_spec : {M : Type 1} → statement M
+unfolding number_of
 store_eight_spec =
     tie.close
     (tie.spec (λ c κs. search rules) (λ c. c.at.ensures ∙ own_past (own c.before.before) c.if-rest-lt5.true)

@@ -6,6 +6,7 @@ use lib.ListN.{drop}
 use borrow.Author.Rules.{rules}
 use Rattle.rules.specs.declared.Level.TheVariants.{First}
 use Rattle.rules.specs.Commands.{store_row}
+use Rattle.rules.specs.Refusals.{number_of}
 use Rattle.plain_shared.specs.Plain.{wrong_of}
 use Rattle.plain_shared.proofs.Tests.{asked, answered, refuses, passes, own_past, own_answer}
 use Rattle.plain_shared.proofs.Fitting.{scratch_holds}
@@ -37,6 +38,7 @@ high_right_lem : (c : tie.Else-not-canonical) → Left (low c).before.before.bef
 high_right_lem c = passes 3074 _ (asked c.canonical.ensures c.if-not-canonical.false-raw) (low_kept (low c))
 
 pub store_four_spec : {M : Type 1} → statement M
+unfolding number_of
 store_four_spec =
     tie.close
     (tie.spec (λ c κs. search rules) (λ c. c.at.ensures ∙ own_past (own c.before.before) c.if-rest-lt4.true)

@@ -9,6 +9,7 @@ use lib.ListN.{get_or}
 use borrow.Author.Rules.{rules}
 use borrow.Author.Tests.{eq-eqb, ne_eqb, le-leb, lt-leb, lt-ltb, le-ltb}
 use Rattle.rules.specs.Commands.{groups, field_right}
+use Rattle.rules.specs.Refusals.{number_of}
 use Rattle.plain_shared.specs.Plain.{head_of, groups_header}
 use Rattle.plain_shared.proofs.Lengths.{field_is}
 use Rattle.plain_shared.proofs.heads.groups_header.Statement.{statement}
@@ -38,7 +39,7 @@ ends : (c : tie.After-length_by_field) → let start = c.before.before.before.be
 ends c = sym (c.length_by_field.ensures ∙ ap (λ (f : ℕ). f + 2) (field_is _))
 
 pub groups_header_spec : {M : Type 1} → statement M
-unfolding head_of groups_header
+unfolding head_of groups_header number_of
 groups_header_spec =
     tie.close
     (tie.spec (λ c. search rules) (λ c. search rules) (λ c. search rules) (λ c κs. search rules)

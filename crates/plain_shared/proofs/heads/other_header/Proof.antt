@@ -2,12 +2,13 @@
 -- Assumes nothing.
 use borrow.Author.Rules.{rules}
 use borrow.Author.Tests.{eq-eqb, ne_eqb, lt-ltb, le-ltb}
+use Rattle.rules.specs.Refusals.{number_of}
 use Rattle.plain_shared.specs.Plain.{head_of}
 use Rattle.plain_shared.proofs.heads.other_header.Statement.{statement}
 use Rattle.plain_shared.proofs.heads.other_header.Tie as tie
 
 pub other_header_spec : {M : Type 1} → statement M
-unfolding head_of
+unfolding head_of number_of
 other_header_spec =
     tie.close
     (tie.spec (λ c. search rules) (λ c κs. search rules)

@@ -4,6 +4,7 @@ use Prim.Native.Nat.{ℕ, ◌+◌, ◌%◌}
 use mathlib.Core.Path.{◌≡◌, sym, ap, ◌∙◌}
 use borrow.Author.Rules.{rules}
 use borrow.Author.Tests.{eq-eqb, ne_eqb, lt-ltb, le-ltb}
+use Rattle.rules.specs.Refusals.{number_of}
 use Rattle.plain_shared.specs.Plain.{head_of, whole_header}
 use Rattle.plain_shared.proofs.Lengths.{field_is}
 use Rattle.plain_shared.proofs.heads.whole_header.Statement.{statement}
@@ -14,7 +15,7 @@ ends : (c : tie.After-length_by_field) → let start = c.before.before.before.be
 ends c = sym (c.length_by_field.ensures ∙ ap (λ (f : ℕ). f + 2) (field_is _))
 
 pub whole_header_spec : {M : Type 1} → statement M
-unfolding head_of whole_header
+unfolding head_of whole_header number_of
 whole_header_spec =
     tie.close
     (tie.spec (λ c. search rules) (λ c κs. search rules)

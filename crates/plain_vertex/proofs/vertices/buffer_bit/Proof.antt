@@ -8,6 +8,7 @@ use borrow.Author.Rules.{rules}
 use Rattle.rules.specs.declared.Reason.TheVariants.{BitNotAllowed}
 use Rattle.rules.specs.Commands.{vertex_buffers_row}
 use Rattle.rules.specs.Masks.{bit_wrong}
+use Rattle.rules.specs.Refusals.{number_of}
 use Rattle.plain_shared.specs.Plain.{first_coded}
 use Rattle.plain_shared.proofs.Tests.{asked, answered, refuses, passes}
 use Rattle.plain_vertex.proofs.Buffers.{address_used, high_kept, bit_tests, bits_tested}
@@ -39,6 +40,7 @@ high c =
     c.high_kept.ensures ∙ ap (λ (u : Bool). u || high_kept a.d.now a.k) used.buffer_used.ensures
 
 pub buffer_bit_spec : {M : Type 1} → statement M
+unfolding number_of
 buffer_bit_spec =
     tie.close
     (tie.spec (λ c. search rules) (λ c. search rules) (λ c κs. search rules) (λ c κs. search rules)

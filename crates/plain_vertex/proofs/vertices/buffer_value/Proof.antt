@@ -9,6 +9,7 @@ use borrow.Author.Tests.{lt-ltb, le-ltb}
 use Rattle.rules.specs.declared.Reason.TheVariants.{ValueBroken}
 use Rattle.rules.specs.Commands.{vertex_buffers_row}
 use Rattle.rules.specs.Values.{value_wrong}
+use Rattle.rules.specs.Refusals.{number_of}
 use Rattle.plain_shared.specs.Plain.{first_coded}
 use Rattle.plain_shared.proofs.Tests.{answered, refuses, passes}
 use Rattle.plain_shared.proofs.Dwords.{high_index, low_index}
@@ -46,6 +47,7 @@ high c =
     ∙ ap (λ (u : Bool). u && not (high_right a.d.now a.k)) used.buffer_used.ensures
 
 pub buffer_value_spec : {M : Type 1} → statement M
+unfolding number_of
 buffer_value_spec =
     tie.close
     (tie.spec (λ c. search rules) (λ c. search rules) (λ c κs. search rules)

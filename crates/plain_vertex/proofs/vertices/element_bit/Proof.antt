@@ -38,6 +38,7 @@ first_kept : (c : tie.Else-not-allowed) → let start = c.before.before.before.b
 first_kept c = passes _ _ (asked c.allowed.ensures c.if-not-allowed.false-raw) (all_left c.before.before.before)
 
 pub element_bit_spec : {M : Type 1} → statement M
+unfolding number_of
 element_bit_spec =
     tie.close
     (tie.spec (λ c. search rules) (λ c. search rules) (λ c κs. search rules) (λ c κs. search rules)

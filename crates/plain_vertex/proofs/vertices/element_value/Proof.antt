@@ -57,6 +57,7 @@ known : (c : tie.Else-not-known_format) → Left (start c.before.before) 2
 known c = passes _ _ (asked c.known_format.ensures c.if-not-known_format.false-raw) (low c.before.before)
 
 pub element_value_spec : {M : Type 1} → statement M
+unfolding number_of
 element_value_spec =
     tie.close
     (tie.spec (λ c. search rules) (λ c. search rules) (λ c κs. search rules)

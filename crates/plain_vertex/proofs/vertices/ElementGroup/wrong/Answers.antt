@@ -1,0 +1,23 @@
+-- `plain_vertex::vertices::ElementGroup::wrong`: the check by its reason.
+use Rattle.std.proofs.Common.{refl}
+use Rattle.rules.specs.Commands.{vertex_elements_row}
+use Rattle.rules.specs.Uses.{uses_by_row, access_of}
+use Rattle.plain_shared.specs.Plain.{first_by, no_windows}
+use Rattle.plain_shared.proofs.Answering.{no_range_by}
+use Rattle.plain_vertex.proofs.Elements.{second_kept}
+use Rattle.plain_vertex.proofs.vertices.ElementGroup.wrong.Goals as goal
+
+pub returns-in-BitNotAllowed : goal.returns-in-BitNotAllowed
+unfolding first_by
+returns-in-BitNotAllowed c = rw c.in-BitNotAllowed.is c.element_bit.ensures
+
+pub element_value-requires : goal.element_value-requires
+element_value-requires c = (c.requires.there, second_kept _ _ c.requires.there (c.requires.bits_pass c.in-ValueBroken.is))
+
+pub returns-in-ValueBroken : goal.returns-in-ValueBroken
+unfolding first_by
+returns-in-ValueBroken c = rw c.in-ValueBroken.is c.element_value.ensures
+
+pub returns-in_default : goal.returns-in_default
+unfolding uses_by_row access_of
+returns-in_default c = no_range_by no_windows vertex_elements_row _ refl _ 2 _ c.in_default.not-BitNotAllowed c.in_default.not-ValueBroken
