@@ -1,42 +1,45 @@
 // The printout, in decimal and ASCII: the line of an answer, the line of a record, and the lines of records gathered in a page.
 #![tactic(auto)]
 
-ghost use Rattle.std.specs.Prelude.{◌≡◌, [], ◌∷◌, ◌++◌, ◌+◌, ◌≤◌, length};
+ghost use Rattle.std.specs.Prelude.{◌≡◌, [], ◌∷◌, ◌++◌, ◌+◌, length};
 ghost use Rattle.rules.specs.Printout.{decimal, answer_line, command_line, record_line};
 ghost use Rattle.rules.specs.Records.{command_of};
-ghost use Rattle.lines.specs.Lines.{Put, Line};
+ghost use Rattle.lines.specs.Lines.{Line};
+ghost use Rattle.lines.specs.Writing.{Room, Puts};
 ghost use Rattle.printout.specs.Pages.{line_bytes, Gathered};
 
-use lines::{MOST_DIGITS, put_byte, put_digits, put_text};
+use lines::OpenLine;
 use rules::{Answer, Command};
 
 // A number behind its label: "reason 0".
-fn put_labelled(out: &mut [u8], at: usize, label: &[u8], n: u32) -> usize
-    requires { at + (length label.now + 20) ≤ length out.old }
-    ensures { Put at (length label.now + 20) (label.now ++ decimal n) out.old result out.new }
+fn put_labelled(line: &mut OpenLine, label: &[u8], n: u32)
+    requires { Room (length label.now + 20) line.old }
+    ensures { Puts (length label.now + 20) (label.now ++ decimal n) line.old line.new }
 {
-    let number = put_text(out, at, label);
-    put_digits(out, number, MOST_DIGITS, n as usize)
+    line.put_text(label);
+    line.put_decimal(n as usize);
 }
 
 // A number and the byte that ends it: a space, or the line feed.
-fn put_column(out: &mut [u8], at: usize, n: usize, end: u8) -> usize
-    requires { at + 21 ≤ length out.old }
-    ensures { Put at 21 (decimal n ++ (end ∷ [])) out.old result out.new }
+fn put_column(line: &mut OpenLine, n: usize, end: u8)
+    requires { Room 21 line.old }
+    ensures { Puts 21 (decimal n ++ (end ∷ [])) line.old line.new }
 {
-    let behind = put_digits(out, at, MOST_DIGITS, n);
-    put_byte(out, behind, end)
+    line.put_decimal(n);
+    line.put_byte(end);
 }
 
 // The answer's line, from byte 0 on, and its length. 128 bytes hold every line: four labels, four numbers and a line feed are 113 at most.
 pub fn answer_line(out: &mut [u8; 128], answer: Answer) -> usize
     ensures { Line (answer_line answer) out.old result out.new }
 {
-    let window = put_labelled(out, 0, b"reason ", answer.reason);
-    let index = put_labelled(out, window, b" window ", answer.window);
-    let count = put_labelled(out, index, b" index ", answer.index);
-    let end = put_labelled(out, count, b" commands ", answer.count);
-    put_byte(out, end, b'\n')
+    let mut line = OpenLine::new(out);
+    put_labelled(&mut line, b"reason ", answer.reason);
+    put_labelled(&mut line, b" window ", answer.window);
+    put_labelled(&mut line, b" index ", answer.index);
+    put_labelled(&mut line, b" commands ", answer.count);
+    line.put_byte(b'\n');
+    line.len()
 }
 
 // What a record says, by its two words.
@@ -53,22 +56,23 @@ pub fn command(first: u32, second: u32) -> Command
     }
 }
 
-// A command's line at a place of a page, and the place behind it.
-fn put_command(out: &mut [u8], at: usize, c: Command) -> usize
-    requires { at + line_bytes ≤ length out.old }
-    ensures { Put at line_bytes (command_line c) out.old result out.new }
+fn put_command(line: &mut OpenLine, c: Command)
+    requires { Room line_bytes line.old }
+    ensures { Puts line_bytes (command_line c) line.old line.new }
 {
-    let level = put_column(out, at, c.index, b' ');
-    let row = put_column(out, level, c.level, b' ');
-    let length = put_column(out, row, c.row, b' ');
-    put_column(out, length, c.length, b'\n')
+    put_column(line, c.index, b' ');
+    put_column(line, c.level, b' ');
+    put_column(line, c.row, b' ');
+    put_column(line, c.length, b'\n');
 }
 
 // A record's line, from byte 0 on, and its length.
 pub fn record_line(out: &mut [u8; 128], first: u32, second: u32) -> usize
     ensures { Line (record_line first second) out.old result out.new }
 {
-    put_command(out, 0, command(first, second))
+    let mut line = OpenLine::new(out);
+    put_command(&mut line, command(first, second));
+    line.len()
 }
 
 // The most bytes of a record's line.
@@ -81,19 +85,30 @@ pub struct Page {
     pub bytes: usize,
 }
 
-// The lines of the records, from the first on, gathered in a page from byte 0 on, as many as there is surely room for. An odd last word is no record.
+// The lines of the records in an empty page, from the first on, as many as there is surely room for; and how many these are. An odd last word is no record.
+fn put_records(page: &mut OpenLine, records: &[u32]) -> usize
+    requires { page.old.end ≡ 0 }
+    ensures same_reference { page.new.bytes.ghost_name ≡ page.old.bytes.ghost_name }
+    ensures gathered { Gathered records.now page.old.bytes.now (record { lines = result; bytes = page.new.end }) page.new.bytes.now }
+{
+    let count = records.len() / 2;
+    for i in 0..count {
+        if page.room() < LINE_BYTES {
+            return i;
+        }
+        put_command(page, command(records[2 * i], records[2 * i + 1]));
+    }
+    count
+}
+
+// The lines of the records gathered in a page from byte 0 on.
 pub fn record_lines(out: &mut [u8], records: &[u32]) -> Page
     ensures { Gathered records.now out.old result out.new }
 {
-    let mut lines = 0;
-    let mut bytes = 0;
-    while lines < records.len() / 2 && bytes + LINE_BYTES <= out.len() {
-        bytes = put_command(
-            out,
-            bytes,
-            command(records[2 * lines], records[2 * lines + 1]),
-        );
-        lines += 1;
+    let mut page = OpenLine::new(out);
+    let lines = put_records(&mut page, records);
+    Page {
+        lines,
+        bytes: page.len(),
     }
-    Page { lines, bytes }
 }
