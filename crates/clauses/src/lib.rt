@@ -35,16 +35,9 @@ pub enum Detail {
 }
 
 // Whether a file is not there: then it is missing, and else it is unread.
+#[tactic(auto, unfolding(crate::specs::Clauses::is_missing))]
 pub fn is_missing(why: Unread) -> bool
     ensures { result ≡ is_missing why }
 {
-    match why {
-        Unread::NoSuchFile => true,
-        Unread::NotAllowed => false,
-        Unread::Folder => false,
-        Unread::NameTooLong => false,
-        Unread::Changed => false,
-        Unread::NoRegularFile => false,
-        Unread::Other(_) => false,
-    }
+    matches!(why, Unread::NoSuchFile)
 }

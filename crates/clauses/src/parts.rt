@@ -1,98 +1,99 @@
-// The parts of a line: each is put at a place, and the place behind it comes back. The number in a contract is how many bytes the part
-// has at most: 20 for a number, and its words.
-ghost use Rattle.std.specs.Prelude.{◌+◌, ◌≤◌, ◌<◌, ◌≡◌, ◌++◌, length};
+// The parts of a line, each put behind what stands there. The number in a contract is how many bytes the part has at most: 20 for a number,
+// and its words.
+ghost use Rattle.std.specs.Prelude.{◌+◌, ◌++◌, length};
 ghost use Rattle.rules.specs.Printout.{decimal};
-ghost use Rattle.lines.specs.Lines.{Put};
+ghost use Rattle.lines.specs.Writing.{Room, Puts};
 ghost use Rattle.clauses.specs.Clauses.{commands_text, window_text, dword_text, place_text, progress_text, base_text};
 
-use lines::{MOST_DIGITS, put_byte, put_digits, put_hex, put_text};
+use lines::OpenLine;
 use rules::{Answer, BaseChoice};
 
 // Two texts, the second behind the first: the name of a file, and what is said of it.
-pub fn put_both(line: &mut [u8], at: usize, first: &[u8], second: &[u8]) -> usize
-    requires { at + (length first.now + length second.now) ≤ length line.old }
-    ensures { Put at (length first.now + length second.now) (first.now ++ second.now) line.old result line.new }
+pub fn put_both(line: &mut OpenLine, first: &[u8], second: &[u8])
+    requires { Room (length first.now + length second.now) line.old }
+    ensures { Puts (length first.now + length second.now) (first.now ++ second.now) line.old line.new }
 {
-    let next = put_text(line, at, first);
-    put_text(line, next, second)
+    line.put_text(first);
+    line.put_text(second);
 }
 
 // A number, and the words behind it.
-pub fn put_count(line: &mut [u8], at: usize, n: usize, words: &[u8]) -> usize
-    requires { at + (20 + length words.now) ≤ length line.old }
-    ensures { Put at (20 + length words.now) (decimal n ++ words.now) line.old result line.new }
+pub fn put_count(line: &mut OpenLine, n: usize, words: &[u8])
+    requires { Room (20 + length words.now) line.old }
+    ensures { Puts (20 + length words.now) (decimal n ++ words.now) line.old line.new }
 {
-    let next = put_digits(line, at, MOST_DIGITS, n);
-    put_text(line, next, words)
+    line.put_decimal(n);
+    line.put_text(words);
 }
 
-pub fn put_commands(line: &mut [u8], at: usize, count: u32) -> usize
-    requires { at + 29 ≤ length line.old }
-    ensures { Put at 29 (commands_text count) line.old result line.new }
+pub fn put_commands(line: &mut OpenLine, count: u32)
+    requires { Room 29 line.old }
+    ensures { Puts 29 (commands_text count) line.old line.new }
 {
     if count == 1 {
-        put_count(line, at, count as usize, b" command")
+        put_count(line, count as usize, b" command");
     } else {
-        put_count(line, at, count as usize, b" commands")
+        put_count(line, count as usize, b" commands");
     }
 }
 
-fn put_window(line: &mut [u8], at: usize, window: u32) -> usize
-    requires { at + 16 ≤ length line.old }
-    ensures { Put at 16 (window_text window) line.old result line.new }
+fn put_window(line: &mut OpenLine, window: u32)
+    requires { Room 16 line.old }
+    ensures { Puts 16 (window_text window) line.old line.new }
 {
     if window == 0 {
-        put_text(line, at, b" at batch dword ")
+        line.put_text(b" at batch dword ");
     } else {
-        put_text(line, at, b" at state dword ")
+        line.put_text(b" at state dword ");
     }
 }
 
-fn put_dword(line: &mut [u8], at: usize, dword: u32) -> usize
-    requires { at + 11 ≤ length line.old }
-    ensures { Put at 11 (dword_text dword) line.old result line.new }
+fn put_dword(line: &mut OpenLine, dword: u32)
+    requires { Room 11 line.old }
+    ensures { Puts 11 (dword_text dword) line.old line.new }
 {
-    let digits = put_byte(line, at, b'(');
-    let close = put_hex(line, digits, 8, dword as usize);
-    put_text(line, close, b"h)")
+    line.put_byte(b'(');
+    line.put_hex(8, dword as usize);
+    line.put_text(b"h)");
 }
 
 // The place of a fault. At the end of the batch there is no dword.
-fn put_place(line: &mut [u8], at: usize, answer: Answer, dword: u32) -> usize
-    requires { at + 48 ≤ length line.old }
-    ensures { Put at 48 (place_text answer dword) line.old result line.new }
+fn put_place(line: &mut OpenLine, answer: Answer, dword: u32)
+    requires { Room 48 line.old }
+    ensures { Puts 48 (place_text answer dword) line.old line.new }
 {
     if answer.reason == 6 {
-        return put_text(line, at, b" at the end of the batch");
+        line.put_text(b" at the end of the batch");
+        return;
     }
-    let index = put_window(line, at, answer.window);
-    let open = put_count(line, index, answer.index as usize, b" ");
-    put_dword(line, open, dword)
+    put_window(line, answer.window);
+    put_count(line, answer.index as usize, b" ");
+    put_dword(line, dword);
 }
 
 // How far the walk came. Before 1 to 4 and 19 to 21 there was none.
-pub fn put_progress(line: &mut [u8], at: usize, answer: Answer, dword: u32) -> usize
-    requires { at + 84 ≤ length line.old }
-    ensures { Put at 84 (progress_text answer dword) line.old result line.new }
+pub fn put_progress(line: &mut OpenLine, answer: Answer, dword: u32)
+    requires { Room 84 line.old }
+    ensures { Puts 84 (progress_text answer dword) line.old line.new }
 {
     if answer.reason < 5 {
-        return at;
+        return;
     }
     if 18 < answer.reason {
-        return at;
+        return;
     }
-    let after = put_place(line, at, answer, dword);
-    let count = put_text(line, after, b" after ");
-    put_commands(line, count, answer.count)
+    put_place(line, answer, dword);
+    line.put_text(b" after ");
+    put_commands(line, answer.count);
 }
 
 // The base that captures were judged by.
-pub fn put_base(line: &mut [u8], at: usize, choice: BaseChoice) -> usize
-    requires { at + 20 ≤ length line.old }
-    ensures { Put at 20 (base_text choice) line.old result line.new }
+pub fn put_base(line: &mut OpenLine, choice: BaseChoice)
+    requires { Room 20 line.old }
+    ensures { Puts 20 (base_text choice) line.old line.new }
 {
     match choice {
-        BaseChoice::StateWindow => put_text(line, at, b"; base: state window"),
-        BaseChoice::NoBase => put_text(line, at, b"; base: none"),
+        BaseChoice::StateWindow => line.put_text(b"; base: state window"),
+        BaseChoice::NoBase => line.put_text(b"; base: none"),
     }
 }

@@ -11,8 +11,7 @@ use clauses::details::put_refusal;
 use clauses::parts::{put_base, put_both, put_commands, put_count, put_progress};
 use clauses::why::{put_unread, put_verdict};
 use clauses::{Detail, Unread};
-use lines::{LINE_BYTES, MOST_DIGITS, put_byte, put_digits, put_text};
-use phrases::{command_row, put_row, reason_row, writing_row};
+use lines::{LINE_BYTES, OpenLine};
 use rules::{Answer, BaseChoice};
 
 // How many bytes there are at most of what is said of a file.
@@ -22,21 +21,27 @@ pub const WORDS_BYTES: usize = 512;
 pub fn refused_words(words: &mut [u8; WORDS_BYTES], reason: u32, detail: Detail) -> usize
     ensures { Line (refused_words reason detail) words.old result words.new }
 {
-    put_refusal(words, 0, reason, detail)
+    let mut out = OpenLine::new(words);
+    put_refusal(&mut out, reason, detail);
+    out.len()
 }
 
 // The words for why a file was not read, from byte 0 on, and their length.
 pub fn unread_words(words: &mut [u8; WORDS_BYTES], why: Unread) -> usize
     ensures { Line (unread_words why) words.old result words.new }
 {
-    put_unread(words, 0, why)
+    let mut out = OpenLine::new(words);
+    put_unread(&mut out, why);
+    out.len()
 }
 
 // The name of a row's command, from byte 0 on, and its length: a number that is no row has none.
 pub fn command_words(words: &mut [u8; WORDS_BYTES], row: usize) -> usize
     ensures { Line (command_words row) words.old result words.new }
 {
-    put_row(words, 0, command_row(row))
+    let mut out = OpenLine::new(words);
+    out.put_text(phrases::command_words(row));
+    out.len()
 }
 
 // Each line stands in the lent buffer from byte 0 on, and its length comes back.
@@ -44,9 +49,11 @@ pub fn accepted_line(line: &mut [u8; LINE_BYTES], name: &[u8], count: u32) -> us
     requires { length name.now ≤ name_bytes }
     ensures { Line (accepted_line name.now count) line.old result line.new }
 {
-    let number = put_both(line, 0, name, b": accepted, ");
-    let end = put_commands(line, number, count);
-    put_byte(line, end, b'\n')
+    let mut out = OpenLine::new(line);
+    put_both(&mut out, name, b": accepted, ");
+    put_commands(&mut out, count);
+    out.put_byte(b'\n');
+    out.len()
 }
 
 pub fn refused_line(
@@ -59,22 +66,26 @@ pub fn refused_line(
     requires { length name.now ≤ name_bytes }
     ensures { Line (refused_line name.now answer dword detail) line.old result line.new }
 {
-    let number = put_both(line, 0, name, b": refused, ");
-    let place = put_digits(line, number, MOST_DIGITS, answer.reason as usize);
-    let colon = put_progress(line, place, answer, dword);
-    let words = put_text(line, colon, b": ");
-    let end = put_refusal(line, words, answer.reason, detail);
-    put_byte(line, end, b'\n')
+    let mut out = OpenLine::new(line);
+    put_both(&mut out, name, b": refused, ");
+    out.put_decimal(answer.reason as usize);
+    put_progress(&mut out, answer, dword);
+    out.put_text(b": ");
+    put_refusal(&mut out, answer.reason, detail);
+    out.put_byte(b'\n');
+    out.len()
 }
 
 pub fn unread_line(line: &mut [u8; LINE_BYTES], name: &[u8], why: Unread) -> usize
     requires { length name.now ≤ name_bytes }
     ensures { Line (unread_line name.now why) line.old result line.new }
 {
-    let verdict = put_text(line, 0, name);
-    let words = put_verdict(line, verdict, why);
-    let end = put_unread(line, words, why);
-    put_byte(line, end, b'\n')
+    let mut out = OpenLine::new(line);
+    out.put_text(name);
+    put_verdict(&mut out, why);
+    put_unread(&mut out, why);
+    out.put_byte(b'\n');
+    out.len()
 }
 
 // Of a capture in a folder that the list has not.
@@ -82,24 +93,30 @@ pub fn unlisted_line(line: &mut [u8; LINE_BYTES], name: &[u8]) -> usize
     requires { length name.now ≤ name_bytes }
     ensures { Line (unlisted_line name.now) line.old result line.new }
 {
-    put_both(line, 0, name, b": not listed\n")
+    let mut out = OpenLine::new(line);
+    put_both(&mut out, name, b": not listed\n");
+    out.len()
 }
 
 // How many captures a reason refused.
 pub fn reason_line(line: &mut [u8; LINE_BYTES], reason: u32, count: u64) -> usize
     ensures { Line (reason_line reason count) line.old result line.new }
 {
-    let number = put_count(line, 0, count as usize, b" refused by ");
-    let words = put_count(line, number, reason as usize, b": ");
-    let end = put_row(line, words, reason_row(reason));
-    put_byte(line, end, b'\n')
+    let mut out = OpenLine::new(line);
+    put_count(&mut out, count as usize, b" refused by ");
+    put_count(&mut out, reason as usize, b": ");
+    out.put_text(phrases::reason_words(reason));
+    out.put_byte(b'\n');
+    out.len()
 }
 
 // How many captures in the folder the list has not.
 pub fn unlisted_total(line: &mut [u8; LINE_BYTES], count: u64) -> usize
     ensures { Line (unlisted_total count) line.old result line.new }
 {
-    put_count(line, 0, count as usize, b" not listed\n")
+    let mut out = OpenLine::new(line);
+    put_count(&mut out, count as usize, b" not listed\n");
+    out.len()
 }
 
 // The totals, and the base that the captures were judged by.
@@ -113,12 +130,14 @@ pub fn totals_line(
 ) -> usize
     ensures { Line (totals_line accepted refused unread missing choice) line.old result line.new }
 {
-    let second = put_count(line, 0, accepted as usize, b" accepted, ");
-    let third = put_count(line, second, refused as usize, b" refused, ");
-    let fourth = put_count(line, third, unread as usize, b" unread, ");
-    let base = put_count(line, fourth, missing as usize, b" missing");
-    let end = put_base(line, base, choice);
-    put_byte(line, end, b'\n')
+    let mut out = OpenLine::new(line);
+    put_count(&mut out, accepted as usize, b" accepted, ");
+    put_count(&mut out, refused as usize, b" refused, ");
+    put_count(&mut out, unread as usize, b" unread, ");
+    put_count(&mut out, missing as usize, b" missing");
+    put_base(&mut out, choice);
+    out.put_byte(b'\n');
+    out.len()
 }
 
 // Of a line of compose's input that the writer refuses, by the number of the line and the writer's.
@@ -126,10 +145,12 @@ pub fn writing_line(line: &mut [u8; LINE_BYTES], name: &[u8], number: usize, rea
     requires { length name.now ≤ name_bytes }
     ensures { Line (writing_line name.now number reason) line.old result line.new }
 {
-    let file = put_text(line, 0, b"lungevati: ");
-    let place = put_both(line, file, name, b": line ");
-    let refusal = put_count(line, place, number, b": refused, ");
-    let words = put_count(line, refusal, reason as usize, b": ");
-    let end = put_row(line, words, writing_row(reason));
-    put_byte(line, end, b'\n')
+    let mut out = OpenLine::new(line);
+    out.put_text(b"lungevati: ");
+    put_both(&mut out, name, b": line ");
+    put_count(&mut out, number, b": refused, ");
+    put_count(&mut out, reason as usize, b": ");
+    out.put_text(phrases::writing_words(reason));
+    out.put_byte(b'\n');
+    out.len()
 }

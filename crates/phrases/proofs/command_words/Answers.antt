@@ -1,0 +1,16 @@
+-- `command_words` meets its contract: the constant has the texts of the definition, which is one computation.
+use Rattle.std.proofs.Common.{refl, ◌∙◌}
+use lib.ListN.{get_or-map}
+use Rattle.rules.specs.Printout.{bytes}
+use Rattle.phrases.specs.Words.{words_in, command_table}
+use Rattle.phrases.specs.Tables.{text_in}
+use Rattle.phrases.proofs.Short.{short}
+use Rattle.phrases.proofs.command_words.Goals as goal
+
+pub returns-clause-words : goal.returns-clause-words
+unfolding text_in words_in command_table
+returns-clause-words c = c.text_in.ensures ∙ get_or-map bytes command_table c.args.row ""
+
+pub returns-clause-short : goal.returns-clause-short
+unfolding command_table
+returns-clause-short c = rw (returns-clause-words c) (short command_table c.args.row refl)

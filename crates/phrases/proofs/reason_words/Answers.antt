@@ -1,0 +1,16 @@
+-- `reason_words` meets its contract: the constant has the texts of the definition, which is one computation.
+use Rattle.std.proofs.Common.{refl, ◌∙◌}
+use lib.ListN.{get_or-map}
+use Rattle.rules.specs.Printout.{bytes}
+use Rattle.phrases.specs.Words.{words_in, reason_table}
+use Rattle.phrases.specs.Tables.{text_in}
+use Rattle.phrases.proofs.Short.{short}
+use Rattle.phrases.proofs.reason_words.Goals as goal
+
+pub returns-clause-words : goal.returns-clause-words
+unfolding text_in words_in reason_table
+returns-clause-words c = c.text_in.ensures ∙ get_or-map bytes reason_table c.args.reason ""
+
+pub returns-clause-short : goal.returns-clause-short
+unfolding reason_table
+returns-clause-short c = rw (returns-clause-words c) (short reason_table c.args.reason refl)

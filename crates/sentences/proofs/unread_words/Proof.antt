@@ -1,9 +1,0 @@
--- `unread_words` meets its contract: the words stand from byte 0 on.
--- Assumes nothing.
-use borrow.Author.Rules.{rules}
-use Rattle.lines.proofs.Putting.{whole}
-use Rattle.sentences.proofs.unread_words.Statement.{statement}
-use Rattle.sentences.proofs.unread_words.Tie as tie
-
-pub unread_words_spec : {M : Type 1} → statement M
-unread_words_spec = tie.close (tie.spec (λ c κs. search rules) (λ c. whole (search rules) c.put_unread.ensures))
