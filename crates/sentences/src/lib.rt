@@ -145,12 +145,12 @@ pub fn writing_line(line: &mut [u8; LINE_BYTES], name: &[u8], number: usize, rea
     requires { length name.now ≤ name_bytes }
     ensures { Line (writing_line name.now number reason) line.old result line.new }
 {
-    let mut out = OpenLine::new(line);
-    out.put_text(b"lungevati: ");
-    put_both(&mut out, name, b": line ");
-    put_count(&mut out, number, b": refused, ");
-    put_count(&mut out, reason as usize, b": ");
-    out.put_text(phrases::writing_words(reason));
-    out.put_byte(b'\n');
-    out.len()
+    let mut message = OpenLine::new(line);
+    message.put_text(b"lungevati: ");
+    put_both(&mut message, name, b": line ");
+    put_count(&mut message, number, b": refused, ");
+    put_count(&mut message, reason as usize, b": ");
+    message.put_text(phrases::writing_words(reason));
+    message.put_byte(b'\n');
+    message.len()
 }
