@@ -1,5 +1,5 @@
 pub mod Putting
-pub mod Pieces
 pub mod Hexadecimal
 pub mod Written
+pub mod Pieces
 pub mod Unique

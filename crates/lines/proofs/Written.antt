@@ -57,6 +57,14 @@ module _ {old new : OpenLine} where
   pub at_most : {m n : ℕ} {bytes : List ℕ} → m ≤ n → Puts m bytes old new → Puts n bytes old new
   at_most h p = record { same_reference = p.same_reference; as_long = p.as_long; put = putting.at_most h p.put }
 
+  -- bytes are at most as many as they are
+  pub counted : {m : ℕ} {bytes : List ℕ} → Puts m bytes old new → Puts (length bytes) bytes old new
+  counted p = record {
+    same_reference = p.same_reference;
+    as_long = p.as_long;
+    put = record { short = omega arith; ends = p.put.ends; written = p.put.written };
+  }
+
   -- a line put from its first byte on, and the length that is told of it
   pub whole : {m n : ℕ} {line before : List ℕ} → old.bytes.now ≡ before → old.end ≡ 0 → n ≡ new.end → m ≤ length before
       → Puts m line old new → Line line before n new.bytes.now

@@ -1,40 +1,56 @@
--- A name's end looked for byte by byte.
+-- The end of a name by the place of the first ending byte.
 -- Assumes nothing.
 use Prim.Native.Nat.{ℕ, suc, ◌+◌, ◌≤◌, ◌<◌}
-use native.Mathlib.Numerals.{add-one}
 use native.Mathlib.Omega.{arith}
-use mathlib.Core.Path.{◌≡◌, refl, ◌∙◌}
-use mathlib.Core.List.{List}
-use lib.ListN.{length, get_or, drop, drop_of_length-le}
-use lib.Seq.{drop-cons}
-use borrow.Author.Tests.{eq-eqb, ne_eqb}
+use mathlib.Core.Path.{◌≡◌, refl, sym, ◌∙◌}
+use mathlib.Core.Bool.{Bool, true, false, cond, not}
+use mathlib.Core.List.{List, [], ◌∷◌}
+use lib.ListN.{length, drop, length-drop}
+use lib.Dec.{eqb, ltb}
+use borrow.Author.Tests.{ltb-true, ltb-false}
+use Rattle.std.specs.List.{position, position_or_len}
+use Rattle.std.proofs.Common.{Option, None, Some}
 use Rattle.names.specs.Entries.{name_length, NameEnd}
 
--- no byte from `from` up to i ends the name
-pub record Seeking (bytes : List ℕ) (from ending i : ℕ) : Type 0 where
-  pub within : i ≤ length bytes
-  pub same : from + name_length (drop from bytes) ending ≡ i + name_length (drop i bytes) ending
+abbrev ends : ℕ → ℕ → Bool
+ends ending byte = eqb byte ending
 
-module _ {bytes : List ℕ} {from ending : ℕ} where
-  pub seek_starts : from ≤ length bytes → Seeking bytes from ending from
-  seek_starts h = record { within = h; same = refl }
+length_is : (bytes : List ℕ) (ending : ℕ) → name_length bytes ending ≡ position_or_len (λ (byte : ℕ). eqb byte ending) bytes
+unfolding name_length
+length_is [] ending = refl
+length_is (byte ∷ rest) ending = rw (length_is rest ending) (by (eqb byte ending) _)
+  where
+    by : (b : Bool) (n : ℕ) → cond b 0 (suc n) ≡ cond (not b) (1 + n) 0
+    by true n = refl
+    by false n = omega arith
 
-  pub seek_goes_on : {i : ℕ} → Seeking bytes from ending i → i < length bytes → (get_or bytes i 0 ≡ ending → ⊥)
-      → Seeking bytes from ending (i + 1)
-  unfolding name_length
-  seek_goes_on {i} s h n =
-      let passed : name_length (drop i bytes) ending ≡ suc (name_length (drop (i + 1) bytes) ending) =
-      rw (drop-cons bytes i 0 h, ne_eqb _ _ n, add-one i) in
-      record { within = omega arith; same = s.same ∙ omega arith }
+within : (bytes : List ℕ) (ending : ℕ) → name_length bytes ending ≤ length bytes
+unfolding name_length
+within [] ending = omega arith
+within (byte ∷ rest) ending = by (eqb byte ending) (within rest ending)
+  where
+    by : (b : Bool) → name_length rest ending ≤ length rest → cond b 0 (suc (name_length rest ending)) ≤ suc (length rest)
+    by true h = omega arith
+    by false h = omega arith
 
-  pub seek_finds : {i : ℕ} → Seeking bytes from ending i → i < length bytes → get_or bytes i 0 ≡ ending → NameEnd bytes from ending i
-  unfolding name_length
-  seek_finds {i} s h e =
-      let here : name_length (drop i bytes) ending ≡ 0 = rw (drop-cons bytes i 0 h, eq-eqb _ _ e) in
-      record { is = omega (arith, s.same); within = s.within }
+at_some : (b : Bool) (p n : ℕ) → cond b (Some p) None ≡ Some n → p ≡ n
+at_some true p n e = cc
+at_some false p n e = cc
 
-  pub seek_ends : {i : ℕ} → Seeking bytes from ending i → length bytes ≤ i → NameEnd bytes from ending i
-  unfolding name_length
-  seek_ends {i} s h =
-      let none : name_length (drop i bytes) ending ≡ 0 = rw (drop_of_length-le bytes h) in
-      record { is = omega (arith, s.same); within = s.within }
+at_none : (b : Bool) (p : ℕ) → cond b (Some p) None ≡ None → b ≡ false
+at_none true p e = cc
+at_none false p e = refl
+
+module _ (bytes : List ℕ) (from ending : ℕ) (h : from ≤ length bytes) where
+  pub ends_there : (n : ℕ) → position (λ (byte : ℕ). eqb byte ending) (drop from bytes) ≡ Some n → NameEnd bytes from ending (from + n)
+  ends_there n e =
+      let len = length_is (drop from bytes) ending ∙ at_some _ _ n e in
+      record { is = omega (arith, len); within = omega (arith, len, within (drop from bytes) ending, length-drop from bytes) }
+
+  pub ends_nowhere : position (λ (byte : ℕ). eqb byte ending) (drop from bytes) ≡ None → NameEnd bytes from ending (length bytes)
+  ends_nowhere e =
+      let far = ltb-false _ _ (at_none _ _ e) in
+      record {
+        is = omega (arith, far, length_is (drop from bytes) ending, within (drop from bytes) ending, length-drop from bytes);
+        within = omega arith;
+      }

@@ -2,13 +2,13 @@
 // and where a name ends in a file of names.
 #![tactic(auto)]
 
-ghost use Rattle.std.specs.Prelude.{◌+◌, ◌-◌, ◌*◌, ◌≤◌, ◌<◌, ◌≡◌, [], length, get_or, drop};
-ghost use Rattle.rules.specs.Formats.{between};
-ghost use Rattle.lines.specs.Lines.{Put, Line};
+ghost use Rattle.std.specs.Prelude.{◌*◌, ◌≤◌, ◌<◌, ◌≡◌, length, get_or, drop, position, nat_eq};
+ghost use Rattle.lines.specs.Lines.{Line};
+ghost use Rattle.lines.specs.Writing.{Room, Puts};
 ghost use Rattle.names.specs.Entries.{NameEnd};
-ghost use Rattle.names.specs.Names.{no_byte, characters, fits, standing, standing_on, written_out, shown_byte, shown_name};
+ghost use Rattle.names.specs.Names.{no_byte, fits, standing, standing_on, written_out, shown_byte, shown_name};
 
-use lines::{NAME_BYTES, put_byte, put_hex, put_text};
+use lines::{NAME_BYTES, OpenLine};
 
 // How many bytes of a character stand, then the lowest and the highest that each of its four bytes may be. 0 and 256: any byte, or none.
 const CHARACTERS: [[u16; 9]; 15] = [
@@ -35,37 +35,20 @@ const CHARACTERS: [[u16; 9]; 15] = [
 fn byte_at(name: &[u8], at: usize) -> u16
     ensures { result ≡ get_or name.now at no_byte }
 {
-    if at < name.len() {
-        name[at] as u16
-    } else {
-        256
+    match name.get(at) {
+        Some(byte) => *byte as u16,
+        None => 256,
     }
 }
 
-fn wide(n: u16) -> usize
-    ensures { result ≡ n }
+#[tactic(auto, unfolding(crate::specs::Names::fits, rules::specs::Formats::between))]
+fn fits(row: &[u16; 9], a: u16, b: u16, c: u16, d: u16) -> bool
+    ensures { result ≡ fits row.now a b c d }
 {
-    n as usize
-}
-
-fn row_at(i: usize) -> [u16; 9]
-    requires { i < 15 }
-    ensures { result ≡ get_or characters i [] }
-{
-    CHARACTERS[i]
-}
-
-fn between(low: u16, high: u16, n: u16) -> bool
-    ensures { result ≡ between low high n }
-{
-    (low <= n) & (n <= high)
-}
-
-fn fits(row: [u16; 9], a: u16, b: u16, c: u16, d: u16) -> bool
-    ensures { result ≡ fits row a b c d }
-{
-    between(row[1], row[2], a)
-        & (between(row[3], row[4], b) & (between(row[5], row[6], c) & between(row[7], row[8], d)))
+    (row[1]..=row[2]).contains(&a)
+        && (row[3]..=row[4]).contains(&b)
+        && (row[5]..=row[6]).contains(&c)
+        && (row[7]..=row[8]).contains(&d)
 }
 
 // How many bytes the character at a place has, if it stands as it is; 0 if it does not.
@@ -77,13 +60,10 @@ fn standing(name: &[u8], at: usize) -> usize
     let b = byte_at(name, at + 1);
     let c = byte_at(name, at + 2);
     let d = byte_at(name, at + 3);
-    let mut i = 0;
-    while i < 15 {
-        let row = row_at(i);
+    for row in &CHARACTERS {
         if fits(row, a, b, c, d) {
-            return wide(row[0]);
+            return row[0] as usize;
         }
-        i += 1;
     }
     0
 }
@@ -96,49 +76,40 @@ fn standing_on(name: &[u8], at: usize, left: usize) -> usize
     if left == 0 { standing(name, at) } else { left }
 }
 
-fn put_written_out(text: &mut [u8], at: usize, byte: u8) -> usize
-    requires { at + 4 ≤ length text.old }
-    ensures { Put at 4 (written_out byte) text.old result text.new }
+fn put_written_out(text: &mut OpenLine, byte: u8)
+    requires { Room 4 text.old }
+    ensures { Puts 4 (written_out byte) text.old text.new }
 {
     if byte == b'\\' {
-        return put_text(text, at, b"\\\\");
+        text.put_text(b"\\\\");
+        return;
     }
-    let digits = put_text(text, at, b"\\x");
-    put_hex(text, digits, 2, byte as usize)
+    text.put_text(b"\\x");
+    text.put_hex(2, byte as usize);
 }
 
-fn put_shown(text: &mut [u8], at: usize, stands: usize, byte: u8) -> usize
-    requires { at + 4 ≤ length text.old }
-    ensures { Put at 4 (shown_byte stands byte) text.old result text.new }
+fn put_shown(text: &mut OpenLine, stands: usize, byte: u8)
+    requires { Room 4 text.old }
+    ensures { Puts 4 (shown_byte stands byte) text.old text.new }
 {
     if stands == 0 {
-        put_written_out(text, at, byte)
+        put_written_out(text, byte);
     } else {
-        put_byte(text, at, byte)
+        text.put_byte(byte);
     }
-}
-
-fn one_less(n: usize) -> usize
-    ensures { result ≡ n - 1 }
-{
-    if n == 0 { 0 } else { n - 1 }
 }
 
 // A byte gives at most four.
-fn put_name(text: &mut [u8], name: &[u8]) -> usize
-    requires { (length name.now ≤ 4096) × (4 * length name.now ≤ length text.old) }
-    ensures { Line (shown_name name.now) text.old result text.new }
+fn put_name(text: &mut OpenLine, name: &[u8])
+    requires { (length name.now ≤ 4096) × Room (4 * length name.now) text.old }
+    ensures { Puts (4 * length name.now) (shown_name name.now) text.old text.new }
 {
-    let mut at = 0;
-    let mut left = 0;
-    let mut i = 0;
-    while i < name.len() {
+    let mut left: usize = 0;
+    for (i, byte) in name.iter().enumerate() {
         let stands = standing_on(name, i, left);
-        at = put_shown(text, at, stands, name[i]);
-        left = one_less(stands);
-        i += 1;
+        put_shown(text, stands, *byte);
+        left = stands.saturating_sub(1);
     }
-    at
 }
 
 // The text of a name, from byte 0 on, and its length.
@@ -146,7 +117,16 @@ pub fn shown(name: &[u8], text: &mut [u8; NAME_BYTES]) -> usize
     requires { length name.now ≤ 4096 }
     ensures { Line (shown_name name.now) text.old result text.new }
 {
-    put_name(text, name)
+    let mut out = OpenLine::new(text);
+    put_name(&mut out, name);
+    out.len()
+}
+
+// Where the next ending byte stands, if there is one.
+fn next_ending(bytes: &[u8], ending: u8) -> Option<usize>
+    ensures { result ≡ position (λ byte. nat_eq byte ending) bytes.now }
+{
+    bytes.iter().position(|byte| *byte == ending)
 }
 
 // Where the name that starts at `from` ends: the place of the next ending byte or, if there is none, that behind the last byte.
@@ -154,12 +134,8 @@ pub fn name_end(bytes: &[u8], from: usize, ending: u8) -> usize
     requires { from ≤ length bytes.now }
     ensures { NameEnd bytes.now from ending result }
 {
-    let mut i = from;
-    while i < bytes.len() {
-        if bytes[i] == ending {
-            return i;
-        }
-        i += 1;
+    match next_ending(&bytes[from..], ending) {
+        Some(n) => from + n,
+        None => bytes.len(),
     }
-    i
 }
