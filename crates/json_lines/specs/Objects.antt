@@ -1,10 +1,8 @@
 -- The objects of `audit --json`: one for each file, and one for the totals. Each is a line.
-use Rattle.std.specs.Prelude.{ℕ, ◌+◌, cond, List, [], ◌∷◌, ◌++◌, drop, eqb}
+use Rattle.std.specs.Prelude.{ℕ, ◌+◌, cond, Option, None, Some, List, [], ◌∷◌, ◌++◌, drop, eqb}
 use Rattle.rules.specs.declared.Answer.{Answer}
 use Rattle.rules.specs.declared.BaseChoice.{BaseChoice}
 use Rattle.rules.specs.Printout.{decimal, bytes}
-use Rattle.members.specs.declared.Number.{Number}
-use Rattle.members.specs.declared.Number.TheVariants.{Is, Null}
 use Rattle.members.specs.declared.Outcome.{Outcome}
 use Rattle.members.specs.declared.Outcome.TheVariants.{Accepted, Refused}
 use Rattle.members.specs.Strings.{quoted}
@@ -17,31 +15,31 @@ abbrev pub rules_text : List ℕ
 rules_text = bytes "01+1+2+3+4+5+6+7"
 
 -- what is told of an answer
-unfoldable pub with_answer : Outcome → Number → Answer → Number → Told
+unfoldable pub with_answer : Outcome → Option ℕ → Answer → Option ℕ → Told
 with_answer outcome size answer dword = record {
   outcome = outcome;
   size = size;
-  reason = Is answer.reason;
-  window = Is answer.window;
-  index = Is answer.index;
+  reason = Some answer.reason;
+  window = Some answer.window;
+  index = Some answer.index;
   dword = dword;
-  count = Is answer.count;
+  count = Some answer.count;
 }
 
 -- what is told of a file that was judged: reason 0 is accepted, and then there is no dword
-unfoldable pub judged : Number → Answer → Number → Told
-judged size answer dword = cond (eqb answer.reason 0) (with_answer Accepted size answer Null) (with_answer Refused size answer dword)
+unfoldable pub judged : Option ℕ → Answer → Option ℕ → Told
+judged size answer dword = cond (eqb answer.reason 0) (with_answer Accepted size answer None) (with_answer Refused size answer dword)
 
 -- what is told of a file that was not
-unfoldable pub not_judged : Number → Outcome → Told
+unfoldable pub not_judged : Option ℕ → Outcome → Told
 not_judged size outcome = record {
   outcome = outcome;
   size = size;
-  reason = Null;
-  window = Null;
-  index = Null;
-  dword = Null;
-  count = Null;
+  reason = None;
+  window = None;
+  index = None;
+  dword = None;
+  count = None;
 }
 
 -- "{"name":"a.capture","size":56,"verdict":"accepted": the text of the last string is not closed yet

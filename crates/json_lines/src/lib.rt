@@ -2,15 +2,14 @@
 #![tactic(auto)]
 
 ghost use Rattle.std.specs.Prelude.{◌≡◌, ◌+◌, ◌≤◌, length};
-ghost use Rattle.lines.specs.Lines.{Put, Line};
+ghost use Rattle.lines.specs.Lines.{Line};
+ghost use Rattle.lines.specs.Writing.{Room, Puts};
 ghost use Rattle.members.specs.Strings.{quoted};
 ghost use Rattle.json_lines.specs.Objects.{with_answer, judged, not_judged, head_text, place_text, file_line, counts_text, totals_line};
 
 use crate::reasons::put_reasons;
-use lines::{LINE_BYTES, put_text};
-use members::{
-    Number, Outcome, put_base, put_dword, put_member, put_number, put_outcome, put_string,
-};
+use lines::{LINE_BYTES, OpenLine};
+use members::{Outcome, put_base, put_dword, put_member, put_number, put_outcome, put_string};
 use rules::{Answer, BaseChoice};
 
 mod reasons;
@@ -22,12 +21,12 @@ pub const RULES: [u8; 16] = *b"01+1+2+3+4+5+6+7";
 #[derive(Clone, Copy)]
 pub struct Told {
     pub outcome: Outcome,
-    pub size: Number,
-    pub reason: Number,
-    pub window: Number,
-    pub index: Number,
-    pub dword: Number,
-    pub count: Number,
+    pub size: Option<u64>,
+    pub reason: Option<u64>,
+    pub window: Option<u64>,
+    pub index: Option<u64>,
+    pub dword: Option<u64>,
+    pub count: Option<u64>,
 }
 
 #[derive(Clone, Copy)]
@@ -40,69 +39,65 @@ pub struct Totals {
 }
 
 // What is told of an answer.
-fn with_answer(outcome: Outcome, size: Number, answer: Answer, dword: Number) -> Told
+#[tactic(auto, unfolding(crate::specs::Objects::with_answer))]
+fn with_answer(outcome: Outcome, size: Option<u64>, answer: Answer, dword: Option<u64>) -> Told
     ensures { result ≡ with_answer outcome size answer dword }
 {
     Told {
         outcome,
         size,
-        reason: Number::Is(answer.reason as u64),
-        window: Number::Is(answer.window as u64),
-        index: Number::Is(answer.index as u64),
+        reason: Some(answer.reason as u64),
+        window: Some(answer.window as u64),
+        index: Some(answer.index as u64),
         dword,
-        count: Number::Is(answer.count as u64),
+        count: Some(answer.count as u64),
     }
 }
 
 // Of a file that was judged. The dword is that at the answer's place, null if there is none.
-pub fn judged(size: Number, answer: Answer, dword: Number) -> Told
+pub fn judged(size: Option<u64>, answer: Answer, dword: Option<u64>) -> Told
     ensures { result ≡ judged size answer dword }
 {
     if answer.reason == 0 {
-        with_answer(Outcome::Accepted, size, answer, Number::Null)
+        with_answer(Outcome::Accepted, size, answer, None)
     } else {
         with_answer(Outcome::Refused, size, answer, dword)
     }
 }
 
 // Of a file that was not: unread, missing or unlisted.
-pub fn not_judged(size: Number, outcome: Outcome) -> Told
+#[tactic(auto, unfolding(crate::specs::Objects::not_judged))]
+pub fn not_judged(size: Option<u64>, outcome: Outcome) -> Told
     ensures { result ≡ not_judged size outcome }
 {
     Told {
         outcome,
         size,
-        reason: Number::Null,
-        window: Number::Null,
-        index: Number::Null,
-        dword: Number::Null,
-        count: Number::Null,
+        reason: None,
+        window: None,
+        index: None,
+        dword: None,
+        count: None,
     }
 }
 
-fn put_head(line: &mut [u8], name: &[u8], told: Told) -> usize
-    requires { length (quoted name.now) + 64 ≤ length line.old }
-    ensures { Put 0 (length (quoted name.now) + 64) (head_text name.now told) line.old result line.new }
+fn put_head(line: &mut OpenLine, name: &[u8], told: Told)
+    requires { Room (length (quoted name.now) + 64) line.old }
+    ensures { Puts (length (quoted name.now) + 64) (head_text name.now told) line.old line.new }
 {
-    let size = told.size;
-    let outcome = told.outcome;
-    let second = put_string(line, 0, b"{\"name\":\"", name);
-    let third = put_member(line, second, b"\",\"size\":", size);
-    put_outcome(line, third, outcome)
+    put_string(line, b"{\"name\":\"", name);
+    put_member(line, b"\",\"size\":", told.size);
+    put_outcome(line, told.outcome);
 }
 
-fn put_place(line: &mut [u8], at: usize, told: Told) -> usize
-    requires { at + 128 ≤ length line.old }
-    ensures { Put at 128 (place_text told) line.old result line.new }
+fn put_place(line: &mut OpenLine, told: Told)
+    requires { Room 128 line.old }
+    ensures { Puts 128 (place_text told) line.old line.new }
 {
-    let window = told.window;
-    let index = told.index;
-    let dword = told.dword;
-    let count = told.count;
-    let second = put_member(line, at, b"\",\"window\":", window);
-    let third = put_member(line, second, b",\"index\":", index);
-    let last = put_dword(line, third, dword);
-    put_member(line, last, b",\"count\":", count)
+    put_member(line, b"\",\"window\":", told.window);
+    put_member(line, b",\"index\":", told.index);
+    put_dword(line, told.dword);
+    put_member(line, b",\"count\":", told.count);
 }
 
 // The line of a file, from byte 0 on, and its length. A name of 4,096 bytes, as `names::shown` shows it, takes 20,480 bytes at most when it is quoted.
@@ -110,23 +105,24 @@ pub fn file_line(line: &mut [u8; LINE_BYTES], name: &[u8], words: &[u8], told: T
     requires { (length (quoted name.now) ≤ 20480) × (length words.now ≤ 512) }
     ensures { Line (file_line name.now words.now told) line.old result line.new }
 {
-    let reason = told.reason;
-    let second = put_head(line, name, told);
-    let third = put_member(line, second, b"\",\"reason\":", reason);
-    let place = put_string(line, third, b",\"words\":\"", words);
-    let end = put_place(line, place, told);
-    put_text(line, end, b"}\n")
+    let mut out = OpenLine::new(line);
+    put_head(&mut out, name, told);
+    put_member(&mut out, b"\",\"reason\":", told.reason);
+    put_string(&mut out, b",\"words\":\"", words);
+    put_place(&mut out, told);
+    out.put_text(b"}\n");
+    out.len()
 }
 
-fn put_counts(line: &mut [u8], t: Totals) -> usize
-    requires { 256 ≤ length line.old }
-    ensures { Put 0 256 (counts_text t) line.old result line.new }
+fn put_counts(line: &mut OpenLine, t: Totals)
+    requires { Room 256 line.old }
+    ensures { Puts 256 (counts_text t) line.old line.new }
 {
-    let refused = put_number(line, 0, b"{\"accepted\":", t.accepted);
-    let unread = put_number(line, refused, b",\"refused\":", t.refused);
-    let missing = put_number(line, unread, b",\"unread\":", t.unread);
-    let unlisted = put_number(line, missing, b",\"missing\":", t.missing);
-    put_number(line, unlisted, b",\"unlisted\":", t.unlisted)
+    put_number(line, b"{\"accepted\":", t.accepted);
+    put_number(line, b",\"refused\":", t.refused);
+    put_number(line, b",\"unread\":", t.unread);
+    put_number(line, b",\"missing\":", t.missing);
+    put_number(line, b",\"unlisted\":", t.unlisted);
 }
 
 // The line of the totals, from byte 0 on, and its length. How many files each reason refused stands at its number; last is the base that the files
@@ -139,11 +135,13 @@ pub fn totals_line(
 ) -> usize
     ensures { Line (totals_line totals counts.now choice) line.old result line.new }
 {
-    let open = put_counts(line, totals);
-    let first = put_text(line, open, b",\"reasons\":{");
-    let close = put_reasons(line, first, counts);
-    let rules = put_text(line, close, b"},\"rules\":\"");
-    let base = put_text(line, rules, &RULES);
-    let end = put_base(line, base, choice);
-    put_text(line, end, b"\"}\n")
+    let mut out = OpenLine::new(line);
+    put_counts(&mut out, totals);
+    out.put_text(b",\"reasons\":{");
+    put_reasons(&mut out, counts);
+    out.put_text(b"},\"rules\":\"");
+    out.put_text(&RULES);
+    put_base(&mut out, choice);
+    out.put_text(b"\"}\n");
+    out.len()
 }

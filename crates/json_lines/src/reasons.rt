@@ -1,53 +1,45 @@
 // The reasons of the totals: each that refused a file, by its number, with how many.
-ghost use Rattle.std.specs.Prelude.{◌≡◌, ◌+◌, ◌*◌, ◌≤◌, cond, ◌++◌, eqb, length, drop};
-ghost use Rattle.rules.specs.Printout.{decimal, bytes};
-ghost use Rattle.lines.specs.Lines.{Put};
+ghost use Rattle.std.specs.Prelude.{◌*◌, ◌≤◌, cond, eqb, length, drop};
+ghost use Rattle.rules.specs.Printout.{bytes};
+ghost use Rattle.lines.specs.Writing.{Room, Puts};
 ghost use Rattle.json_lines.specs.Objects.{reason_text, reasons_on};
 
-use lines::{MOST_DIGITS, put_digits, put_text};
+use lines::OpenLine;
 use members::put_number;
 
-fn put_quote(line: &mut [u8], at: usize, told: usize) -> usize
-    requires { at + 2 ≤ length line.old }
-    ensures { Put at 2 (cond (eqb told 0) (bytes "\"") (bytes ",\"")) line.old result line.new }
+fn put_quote(line: &mut OpenLine, told: usize)
+    requires { Room 2 line.old }
+    ensures { Puts 2 (cond (eqb told 0) (bytes "\"") (bytes ",\"")) line.old line.new }
 {
     if told == 0 {
-        put_text(line, at, b"\"")
+        line.put_text(b"\"");
     } else {
-        put_text(line, at, b",\"")
+        line.put_text(b",\"");
     }
 }
 
-fn put_reason(line: &mut [u8], at: usize, told: usize, reason: usize, n: u64) -> usize
-    requires { at + 44 ≤ length line.old }
-    ensures { Put at 44 (reason_text told reason n) line.old result line.new }
+fn put_reason(line: &mut OpenLine, told: usize, reason: usize, n: u64)
+    requires { Room 44 line.old }
+    ensures { Puts 44 (reason_text told reason n) line.old line.new }
 {
     if n == 0 {
-        return at;
+        return;
     }
-    let number = put_quote(line, at, told);
-    let close = put_digits(line, number, MOST_DIGITS, reason);
-    put_number(line, close, b"\":", n)
+    put_quote(line, told);
+    line.put_decimal(reason);
+    put_number(line, b"\":", n);
 }
 
-fn told_now(told: usize, n: u64) -> usize
-    requires { told ≤ 4096 }
-    ensures { result ≡ told + cond (eqb n 0) 0 1 }
+pub fn put_reasons(line: &mut OpenLine, counts: &[u64])
+    requires { (length counts.now ≤ 4096) × Room (44 * length counts.now) line.old }
+    ensures { Puts (44 * length counts.now) (reasons_on 0 1 (drop 1 counts.now)) line.old line.new }
 {
-    if n == 0 { told } else { told + 1 }
-}
-
-pub fn put_reasons(line: &mut [u8], at: usize, counts: &[u64]) -> usize
-    requires { (length counts.now ≤ 4096) × (at + 44 * length counts.now ≤ length line.old) }
-    ensures { Put at (44 * length counts.now) (reasons_on 0 1 (drop 1 counts.now)) line.old result line.new }
-{
-    let mut next = at;
-    let mut told = 0;
-    let mut i = 1;
-    while i < counts.len() {
-        next = put_reason(line, next, told, i, counts[i]);
-        told = told_now(told, counts[i]);
-        i += 1;
+    let mut told: usize = 0;
+    for reason in 1..counts.len() {
+        let n = counts[reason];
+        put_reason(line, told, reason, n);
+        if n != 0 {
+            told += 1;
+        }
     }
-    next
 }

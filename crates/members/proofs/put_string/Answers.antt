@@ -1,0 +1,6 @@
+-- `put_string` meets its contract: the text behind its key.
+use Rattle.lines.proofs.Written.{then}
+use Rattle.members.proofs.put_string.Goals as goal
+
+pub returns : goal.returns
+returns c = then c.put_text.ensures c.put_quoted.ensures
