@@ -9,13 +9,13 @@ ghost use Rattle.members.specs.Strings.{quoted};
 use causes::cause;
 use clauses::{Detail, Unread};
 use json_lines::Totals;
-use lines::{LINE_BYTES, NAME_BYTES, put_text};
-use members::{Number, Outcome};
+use lines::{LINE_BYTES, NAME_BYTES, OpenLine};
+use members::Outcome;
 use outside::output::{Outputs, Told};
 use outside::{arguments, descriptors, files, input};
 use reports::judge::Judge;
 use reports::{MOST_BYTES, Status, base_choice, has_letter};
-use rules::{Answer, BaseChoice, Filled, Opened};
+use rules::{Answer, BaseChoice, Filled};
 use sentences::WORDS_BYTES;
 use std::io;
 use std::io::{ErrorKind, IsTerminal, Read, Seek, SeekFrom, Write};
@@ -128,8 +128,8 @@ fn caused(judge: &Judge, filled: Filled, answer: Answer) -> Detail {
 // What a refused command did. The file is read a second time, for the batch's address and length.
 fn command_detail(judge: &mut Judge, file: &[u8], answer: Answer) -> Detail {
     match capture::read(file, &mut judge.batch, &mut judge.state) {
-        Opened::NotRead(_) => Detail::NoMore,
-        Opened::Holds(contents) => caused(judge, contents.batch, answer),
+        Err(_) => Detail::NoMore,
+        Ok(contents) => caused(judge, contents.batch, answer),
     }
 }
 
@@ -269,13 +269,22 @@ fn plain_line(line: &mut [u8; LINE_BYTES], name: &[u8], look: Look) -> usize
     }
 }
 
+fn plain_words(words: &mut [u8; WORDS_BYTES], text: &[u8]) -> usize
+    requires { length text.now ≤ 512 }
+    ensures { (result ≤ length words.new) × (length words.new ≡ length words.old) }
+{
+    let mut out = OpenLine::new(words);
+    out.put_text(text);
+    out.len()
+}
+
 // The same words as in the line in plain words.
 fn found_words(words: &mut [u8; WORDS_BYTES], found: Finding) -> usize
     ensures { (result ≤ length words.new) × (length words.new ≡ length words.old) }
 {
     let reason = found.answer.reason;
     if reason == 0 {
-        return put_text(words, 0, b"accepted");
+        return plain_words(words, b"accepted");
     }
     sentences::refused_words(words, reason, found.detail)
 }
@@ -286,22 +295,22 @@ fn words_of(words: &mut [u8; WORDS_BYTES], look: Look) -> usize
     match look {
         Look::Read(found) => found_words(words, found),
         Look::NotRead(why) => sentences::unread_words(words, why),
-        Look::Unlisted => put_text(words, 0, b"not listed"),
+        Look::Unlisted => plain_words(words, b"not listed"),
     }
 }
 
-fn size_told(size: Detail) -> Number {
+fn size_told(size: Detail) -> Option<u64> {
     match size {
-        Detail::HasBytes(n) => Number::Is(n),
-        _ => Number::Null,
+        Detail::HasBytes(n) => Some(n),
+        _ => None,
     }
 }
 
 // The dword at the place of a fault. 1 to 4 and 19 to 21 have no place, and 6 is where the batch ends.
-fn dword_told(reason: u32, dword: u32) -> Number {
+fn dword_told(reason: u32, dword: u32) -> Option<u64> {
     match reason {
-        0..=4 | 6 | 19..=22 => Number::Null,
-        _ => Number::Is(dword as u64),
+        0..=4 | 6 | 19..=22 => None,
+        _ => Some(dword as u64),
     }
 }
 
@@ -312,7 +321,7 @@ fn told(look: Look) -> json_lines::Told {
             let dword = dword_told(answer.reason, found.dword);
             json_lines::judged(size_told(found.size), answer, dword)
         }
-        Look::NotRead(_) | Look::Unlisted => json_lines::not_judged(Number::Null, look.outcome()),
+        Look::NotRead(_) | Look::Unlisted => json_lines::not_judged(None, look.outcome()),
     }
 }
 

@@ -2,14 +2,15 @@
 // prints their dwords. They are printed only once every line is written: of an input that is refused nothing is.
 #![tactic(auto)]
 
-ghost use Rattle.std.specs.Prelude.{◌+◌, ◌≤◌, length};
+ghost use Rattle.std.specs.Prelude.{◌≡◌, ◌*◌, ◌≤◌, length};
 ghost use Rattle.lines.specs.Lines.{name_bytes};
+ghost use Rattle.lines.specs.Writing.{Room};
 
 mod numbers;
 mod reading;
 
 use crate::reading::{BATCH_DWORDS, Reader, Wrong};
-use lines::{LINE_BYTES, NAME_BYTES, put_byte, put_hex};
+use lines::{LINE_BYTES, NAME_BYTES, OpenLine};
 use outside::output::{Outputs, write_all};
 use outside::{arguments, descriptors, files};
 use reports::Status;
@@ -41,25 +42,16 @@ fn read_lines<I: Read>(from: &mut I, reader: &mut Reader) -> Result<(), Wrong> {
 
 // ---- what is printed
 
-// A dword in hexadecimal, on a line of its own.
-fn put_dword(page: &mut [u8], at: usize, dword: u32) -> usize
-    requires { at + 9 ≤ length page.old }
-    ensures { result ≤ at + 9 }
+// The dwords in hexadecimal, each on a line of its own.
+fn put_dwords(page: &mut OpenLine, dwords: &[u32])
+    requires { Room (9 * length dwords.now) page.old }
+    ensures same_reference { page.new.bytes.ghost_name ≡ page.old.bytes.ghost_name }
+    ensures within { page.new.end ≤ length page.new.bytes.now }
 {
-    let end = put_hex(page, at, 8, dword as usize);
-    put_byte(page, end, b'\n')
-}
-
-// The dwords, one behind the other.
-fn put_dwords(page: &mut [u8; PAGE_BYTES], dwords: &[u32]) -> usize
-    requires { length dwords.now ≤ 4096 }
-    ensures { result ≤ length page.new }
-{
-    let mut at = 0;
     for dword in dwords {
-        at = put_dword(page, at, *dword);
+        page.put_hex(8, *dword as usize);
+        page.put_byte(b'\n');
     }
-    at
 }
 
 // Prints them, and says why if that cannot be done.
@@ -67,7 +59,9 @@ fn print_dwords<O: Write, E: Write>(to: &mut Outputs<O, E>, dwords: &[u32]) -> S
     requires { length dwords.now ≤ 4096 }
 {
     let mut page = [0u8; PAGE_BYTES];
-    let n = put_dwords(&mut page, dwords);
+    let mut out = OpenLine::new(&mut page);
+    put_dwords(&mut out, dwords);
+    let n = out.len();
     match to.print(&page[..n]) {
         Ok(()) => Status::Accepted,
         Err(_) => Status::Unread,

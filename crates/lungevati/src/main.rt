@@ -5,7 +5,7 @@
 ghost use Rattle.std.specs.Prelude.{◌≤◌, length};
 ghost use Rattle.lines.specs.Lines.{name_bytes};
 
-use lines::{NAME_BYTES, put_text};
+use lines::{NAME_BYTES, OpenLine};
 use outside::output::{Outputs, Told, write_all};
 use outside::{arguments, descriptors, files, input};
 use reports::judge::Judge;
@@ -58,10 +58,12 @@ impl<O: Write, E: Write> Printer<O, E> {
     fn print_name(&mut self, name: &[u8]) -> Result<(), Told>
         requires { length name.now ≤ name_bytes }
     {
-        let start = put_text(&mut self.page, 0, b"file ");
-        let end = put_text(&mut self.page, start, name);
-        let behind = put_text(&mut self.page, end, b"\n");
-        self.to.print(&self.page[..behind])
+        let mut line = OpenLine::new(&mut self.page);
+        line.put_text(b"file ");
+        line.put_text(name);
+        line.put_text(b"\n");
+        let end = line.len();
+        self.to.print(&self.page[..end])
     }
 
     fn print_answer(&mut self, answer: Answer) -> Result<(), Told> {
