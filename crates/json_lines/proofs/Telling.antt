@@ -12,7 +12,7 @@ use lib.Dec.{eqb}
 use Rattle.lines.specs.declared.OpenLine.{OpenLine}
 use Rattle.lines.specs.Writing.{Puts}
 use Rattle.lines.proofs.Pieces.{Pieces, pieces_start, pieces_go_on, pieces_end}
-use Rattle.lines.proofs.Written.{at_most}
+use Rattle.lines.proofs.Putting.{at_most}
 use Rattle.json_lines.specs.Objects.{reason_text, reasons_on}
 
 -- the reasons below i are told, none by more than 44 bytes

@@ -7,7 +7,7 @@ use mathlib.Core.List.{List, [], ◌++◌, append_assoc, append-nil}
 use lib.ListN.{length, length-append}
 use Rattle.lines.specs.declared.OpenLine.{OpenLine}
 use Rattle.lines.specs.Writing.{Puts}
-use Rattle.lines.proofs.Written.{nothing, then, counted}
+use Rattle.lines.proofs.Putting.{nothing, then, counted}
 
 -- `rest` is left of the whole, behind what is put
 pub record Pieces (whole : List ℕ) (old new : OpenLine) (rest : List ℕ) : Type 0 where

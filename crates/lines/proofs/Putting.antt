@@ -1,16 +1,27 @@
--- What putting bytes into a line comes to: parts put one behind the other, a text put byte by byte, digits, and the whole line.
+-- What putting bytes into an open line comes to: parts put one behind the other, a text, digits, and the whole line.
 -- Assumes nothing.
 use Prim.Native.Nat.{ℕ, zero, suc, ◌+◌, ◌-◌, ◌/◌, ◌%◌, ◌<◌, ◌≤◌}
 use native.Mathlib.Nat.{add-zero, zero-add}
-use native.Mathlib.Numerals.{add-one}
 use native.Mathlib.Omega.{arith}
 use mathlib.Core.Path.{◌≡◌, refl, sym, ap, ◌∙◌}
-use mathlib.Core.List.{List, [], ◌∷◌, ◌++◌}
-use lib.ListN.{length, get_or, take, drop, set, length-append, length-set, drop_of_length-le}
-use lib.Seq.{sets, sets-eq, drop-cons, take_at}
+use mathlib.Core.List.{List, [], ◌∷◌, ◌++◌, append_assoc}
+use lib.ListN.{length, take, drop, set, length-append}
+use lib.Seq.{sets, sets-eq, drop-drop, take_at}
+use denote.MutBor.{MutBor}
 use borrow.Author.Tests.{lt-ltb, le-ltb}
+use borrow.Rule.Slice.PartMut.{put_mid}
 use Rattle.rules.specs.Printout.{digits_of}
-use Rattle.lines.specs.Lines.{Put, Line}
+use Rattle.lines.specs.declared.OpenLine.{OpenLine}
+use Rattle.lines.specs.Hexadecimal.{hex_digit, hex_digits}
+use Rattle.lines.specs.Lines.{Line}
+use Rattle.lines.specs.Writing.{Opens, Puts}
+
+-- a text copied into its place is put there
+pub copied : (old new text : List ℕ) (at end : ℕ) → end ≡ at + length text → end ≤ length old → new ≡ text
+    → put_mid at (end - at) old new ≡ sets old at text
+copied old new text at end e fits same =
+    let k : end - at ≡ length text = omega arith in
+    rw (same, k, drop-drop) (sym (sets-eq text old at (omega arith) ∙ append_assoc (take at old) text _))
 
 -- stores of one list behind another
 sets_append : (l : List ℕ) (i : ℕ) (xs ys : List ℕ) → sets l i (xs ++ ys) ≡ sets (sets l i xs) (i + length xs) ys
@@ -19,78 +30,85 @@ sets_append l i (x ∷ xs) ys =
     let e : i + suc (length xs) ≡ suc i + length xs = omega arith in
     rw e (sets_append (set l i x) (suc i) xs ys)
 
--- two parts, the second at the place behind the first, are one
-pub then : {at m n k r : ℕ} {xs ys old mid new : List ℕ} → Put at m xs old k mid → Put k n ys mid r new
-    → Put at (m + n) (xs ++ ys) old r new
-then {at} {xs = xs} {ys = ys} {old = old} p q = record {
-  short = simp length-append (omega (arith, p.short, q.short));
-  ends = simp length-append (omega (arith, p.ends, q.ends));
-  written = rw (q.written, p.written, p.ends, sets_append old at xs ys);
+-- two parts, the second behind the first, are one
+pub then : {m n : ℕ} {xs ys : List ℕ} {old mid new : OpenLine} → Puts m xs old mid → Puts n ys mid new → Puts (m + n) (xs ++ ys) old new
+then {xs = xs} {ys = ys} {old = old} p q = record {
+  same_reference = q.same_reference ∙ p.same_reference;
+  as_long = q.as_long ∙ p.as_long;
+  put = record {
+    short = simp length-append (omega (arith, p.put.short, q.put.short));
+    ends = simp length-append (omega (arith, p.put.ends, q.put.ends));
+    written = rw (q.put.written, p.put.written, p.put.ends, sets_append old.bytes.now old.end xs ys);
+  };
 }
 
 -- nothing put
-pub nothing : {at most : ℕ} {old : List ℕ} → Put at most [] old at old
-nothing = record { short = omega arith; ends = omega arith; written = refl }
+pub nothing : {most : ℕ} {line : OpenLine} → Puts most [] line line
+nothing = record { same_reference = refl; as_long = refl; put = record { short = omega arith; ends = omega arith; written = refl } }
 
--- fewer bytes at most are also more at most
-pub at_most : {at m n r : ℕ} {bytes old new : List ℕ} → m ≤ n → Put at m bytes old r new → Put at n bytes old r new
-at_most h p = record { short = omega (arith, p.short); ends = p.ends; written = p.written }
-
--- a text put byte by byte: the stores that are left, made on what is there, give the whole text
-pub record Copying (at : ℕ) (text old new : List ℕ) (i : ℕ) : Type 0 where
-  pub within : i ≤ length text
-  pub same : length new ≡ length old
-  pub rest : sets new (at + i) (drop i text) ≡ sets old at text
-
-module _ (at : ℕ) (text old : List ℕ) where
-  pub copy_starts : Copying at text old old 0
-  copy_starts = record { within = omega arith; same = refl; rest = rw add-zero }
-
-  pub copy_goes_on : {new : List ℕ} {i : ℕ} → Copying at text old new i → i < length text
-      → Copying at text old (set new (at + i) (get_or text i 0)) (i + 1)
-  copy_goes_on {new} {i} c h =
-      let e : at + (i + 1) ≡ suc (at + i) = omega arith in
-      record {
-        within = omega arith;
-        same = simp length-set c.same;
-        rest = rw (e, add-one i) (rw (drop-cons text i 0 h) at c.rest);
-      }
-
-  pub copy_ends : {new : List ℕ} {i : ℕ} → Copying at text old new i → length text ≤ i → Put at (length text) text old (at + i) new
-  copy_ends {new} {i} c h = record {
-    short = omega arith;
-    ends = omega (arith, c.within);
-    written = rw (drop_of_length-le text h) at c.rest;
+module _ {old new : OpenLine} where
+  -- at most as many bytes as some other bound allows
+  bounded : {m n : ℕ} {bytes : List ℕ} → length bytes ≤ n → Puts m bytes old new → Puts n bytes old new
+  bounded h p = record {
+    same_reference = p.same_reference;
+    as_long = p.as_long;
+    put = record { short = h; ends = p.put.ends; written = p.put.written };
   }
 
--- the digits of a number: none, or one digit alone, or one behind the digits of its tenth
-module _ {at : ℕ} {old : List ℕ} where
-  pub no_digit : (most n : ℕ) → most ≡ 0 → Put at most (digits_of most n) old at old
-  unfolding digits_of
-  no_digit most n e = rw e nothing
+  -- fewer bytes at most are also more at most
+  pub at_most : {m n : ℕ} {bytes : List ℕ} → m ≤ n → Puts m bytes old new → Puts n bytes old new
+  at_most h p = bounded (omega (arith, p.put.short)) p
 
-  pub only_digit : (most n : ℕ) {r : ℕ} {new : List ℕ} → (most ≡ 0 → ⊥) → n < 10 → Put at 1 ((48 + n % 10) ∷ []) old r new
-      → Put at most (digits_of most n) old r new
+  -- bytes are at most as many as they are
+  pub counted : {m : ℕ} {bytes : List ℕ} → Puts m bytes old new → Puts (length bytes) bytes old new
+  counted p = bounded (omega arith) p
+
+  -- a line put from its first byte on
+  pub from_start : {m : ℕ} {line : List ℕ} → old.end ≡ 0 → m ≤ length old.bytes.now → Puts m line old new
+      → Line line old.bytes.now new.end new.bytes.now
+  from_start {line = line} start fits p = record {
+    fits = omega (arith, p.put.short, p.put.ends);
+    counts = omega (arith, p.put.ends);
+    written = p.put.written ∙ rw start (sets-eq line old.bytes.now 0 (omega (arith, p.put.short)) ∙ rw zero-add);
+  }
+
+  -- a line put into lent bytes, and the length that is told of it
+  pub whole : {lent : MutBor (List ℕ)} {m n : ℕ} {line : List ℕ} → Opens lent old → n ≡ new.end → m ≤ length lent.now → Puts m line old new
+      → Line line lent.now n new.bytes.now
+  whole o told fits p = rw (told, ← o.same_bytes) (from_start o.empty (rw (← o.same_bytes) at fits) p)
+
+-- the digits of a number: none, or one digit alone, or one behind the digits of its tenth
+pub no_digit : (most n : ℕ) {line : OpenLine} → most ≡ 0 → Puts most (digits_of most n) line line
+unfolding digits_of
+no_digit most n e = rw e nothing
+
+module _ {old new : OpenLine} where
+  pub only_digit : (most n : ℕ) → (most ≡ 0 → ⊥) → n < 10 → Puts 1 ((48 + n % 10) ∷ []) old new → Puts most (digits_of most n) old new
   unfolding digits_of
   only_digit zero n some l p = absurd (some refl)
   only_digit (suc more) n some l p = simp (lt-ltb n 10 l) (at_most (omega arith) p)
 
-  pub last_digit : (most n : ℕ) {k r : ℕ} {mid new : List ℕ} → (most ≡ 0 → ⊥) → 10 ≤ n
-      → Put at (most - 1) (digits_of (most - 1) (n / 10)) old k mid
-      → Put k 1 ((48 + n % 10) ∷ []) mid r new → Put at most (digits_of most n) old r new
+  pub last_digit : (most n : ℕ) {mid : OpenLine} → (most ≡ 0 → ⊥) → 10 ≤ n → Puts (most - 1) (digits_of (most - 1) (n / 10)) old mid
+      → Puts 1 ((48 + n % 10) ∷ []) mid new → Puts most (digits_of most n) old new
   unfolding digits_of
   last_digit zero n some l p q = absurd (some refl)
   last_digit (suc more) n some l p q =
       let e : suc more - 1 ≡ more = omega arith in
       simp (le-ltb n 10 l) (at_most (omega arith) (then (rw e at p) q))
 
--- a line put from its first byte on
-pub whole : {m r : ℕ} {line old new : List ℕ} → m ≤ length old → Put 0 m line old r new → Line line old r new
-whole {line = line} {old = old} h p = record {
-  fits = omega (arith, p.short, p.ends);
-  counts = omega (arith, p.ends);
-  written = p.written ∙ sets-eq line old 0 (omega (arith, p.short)) ∙ rw zero-add;
-}
+-- hexadecimal digits: none, or one behind those of the sixteenth
+pub no_hex : (count n : ℕ) {line : OpenLine} → count ≡ 0 → Puts count (hex_digits count n) line line
+unfolding hex_digits
+no_hex count n e = rw e nothing
+
+pub last_hex : (count n : ℕ) {digit : ℕ} {old mid new : OpenLine} → (count ≡ 0 → ⊥)
+    → Puts (count - 1) (hex_digits (count - 1) (n / 16)) old mid → digit ≡ hex_digit (n % 16) → Puts 1 (digit ∷ []) mid new
+    → Puts count (hex_digits count n) old new
+unfolding hex_digits
+last_hex zero n some p d q = absurd (some refl)
+last_hex (suc more) n some p d q =
+    let e : suc more - 1 ≡ more = omega arith in
+    at_most (omega arith) (then (rw e at p) (rw d at q))
 
 -- what stands at the front of the buffer is the line
 module _ {line old new : List ℕ} {r : ℕ} where

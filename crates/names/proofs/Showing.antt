@@ -10,7 +10,7 @@ use lib.Seq.{drop-cons}
 use Rattle.lines.specs.declared.OpenLine.{OpenLine}
 use Rattle.lines.specs.Writing.{Puts}
 use Rattle.lines.proofs.Pieces.{Pieces, pieces_start, pieces_go_on, pieces_end}
-use Rattle.lines.proofs.Written.{at_most}
+use Rattle.lines.proofs.Putting.{at_most}
 use Rattle.names.specs.Names.{standing_on, shown_byte, shown_on, shown_name}
 
 -- the first i bytes are shown, none by more than four

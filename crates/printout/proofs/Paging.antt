@@ -15,8 +15,10 @@ use Rattle.rules.specs.declared.Command.{Command}
 use Rattle.rules.specs.Records.{commands_in, room_of}
 use Rattle.rules.specs.Printout.{command_line, command_lines, record_line}
 use Rattle.rules.proofs.Listing.{commands_counted, command_at_lem, room_is}
-use Rattle.lines.specs.Lines.{Put}
-use Rattle.lines.proofs.Putting.{then, nothing, whole}
+use Rattle.lines.specs.declared.OpenLine.{OpenLine}
+use Rattle.lines.specs.Lines.{Line}
+use Rattle.lines.specs.Writing.{Puts}
+use Rattle.lines.proofs.Putting.{then, nothing, counted, from_start}
 use Rattle.printout.specs.declared.Page.{Page}
 use Rattle.printout.specs.Pages.{line_bytes, lines_in, Gathered}
 
@@ -53,61 +55,60 @@ few room (c ∷ cs) = by (ltb room line_bytes) (few (room - length (command_line
     by false h = omega (arith, h)
 
 -- where the loop stands
-pub record Gathering (records old new : List ℕ) (i at : ℕ) : Type 0 where
+pub record Gathering (records : List ℕ) (old new : OpenLine) (i : ℕ) : Type 0 where
   pub within : i ≤ length (commands_in records)
-  pub lines : Put 0 at (command_lines (take i (commands_in records))) old at new
-  pub rest : lines_in (length old) (commands_in records) ≡ i + lines_in (length old - at) (drop i (commands_in records))
-  pub same : length new ≡ length old
-  pub in_page : at ≤ length old
+  pub lines : Puts (length (command_lines (take i (commands_in records)))) (command_lines (take i (commands_in records))) old new
+  pub rest : lines_in (length old.bytes.now) (commands_in records)
+      ≡ i + lines_in (length old.bytes.now - new.end) (drop i (commands_in records))
+  pub in_page : new.end ≤ length old.bytes.now
 
-module _ (records old : List ℕ) where
-  pub begins : Gathering records old old 0 0
+module _ (records : List ℕ) (old : OpenLine) (empty : old.end ≡ 0) where
+  pub begins : Gathering records old old 0
   unfolding command_lines
-  begins = record { within = omega arith; lines = nothing; rest = rw (sub-zero, zero-add); same = refl; in_page = omega arith }
+  begins = record { within = omega arith; lines = nothing; rest = rw (empty, sub-zero, zero-add); in_page = omega arith }
 
-  more : {new newer : List ℕ} {i at behind : ℕ} → Gathering records old new i at → i < length (commands_in records) → at + line_bytes ≤ length old
-      → Put at line_bytes (command_line (get_or (commands_in records) i no_command)) new behind newer → Gathering records old newer (i + 1) behind
+  more : {new newer : OpenLine} {i : ℕ} → Gathering records old new i → i < length (commands_in records) → new.end + line_bytes ≤ length old.bytes.now
+      → Puts line_bytes (command_line (get_or (commands_in records) i no_command)) new newer → Gathering records old newer (i + 1)
   unfolding lines_in
-  more {new = new} {i = i} {at = at} {behind = behind} g h room p =
+  more {new = new} {newer = newer} {i = i} g h room p =
       let cs = commands_in records in
-      let both = then g.lines p in
-      let fits = le-ltb (length old - at) line_bytes (omega arith) in
-      let left : length old - at - length (command_line (get_or cs i no_command)) ≡ length old - behind = omega (arith, p.ends) in
+      let all = length old.bytes.now in
+      let fits = le-ltb (all - new.end) line_bytes (omega arith) in
+      let left : all - new.end - length (command_line (get_or cs i no_command)) ≡ all - newer.end = omega (arith, p.put.ends) in
       let next : drop (suc i) cs ≡ drop (i + 1) cs = ap (λ (n : ℕ). drop n cs) (sym (add-one i)) in
       record {
         within = omega arith;
-        lines = record {
-          short = rw (lines_more cs i h) (omega (arith, both.ends));
-          ends = rw (lines_more cs i h) both.ends;
-          written = rw (lines_more cs i h) both.written;
-        };
+        lines = rw (lines_more cs i h) (counted (then g.lines p));
         rest = g.rest ∙ rw (drop-cons cs i no_command h, fits, left, next) (omega arith);
-        same = ap length p.written ∙ length-sets new at (command_line (get_or cs i no_command)) ∙ g.same;
-        in_page = omega (arith, p.ends, p.short);
+        in_page = omega (arith, p.put.ends, p.put.short);
       }
 
   -- one line more, by the two words of its record
-  pub one_more : {new newer : List ℕ} {i at behind : ℕ} → Gathering records old new i at → i < length records / 2 → at + line_bytes ≤ length old
-      → Put at line_bytes (record_line (get_or records (2 * i) 0) (get_or records (2 * i + 1) 0)) new behind newer → Gathering records old newer (i + 1) behind
+  pub one_more : {new newer : OpenLine} {i : ℕ} → Gathering records old new i → i < length records / 2 → new.end + line_bytes ≤ length old.bytes.now
+      → Puts line_bytes (record_line (get_or records (2 * i) 0) (get_or records (2 * i + 1) 0)) new newer → Gathering records old newer (i + 1)
   one_more {i = i} g h room p =
       let there : i < room_of (length records) = omega (arith, room_is (length records)) in
       more g (omega (arith, commands_counted records)) room (rw (← command_at_lem records i no_command there) at p)
 
-  pub page_full : {new : List ℕ} {page : Page} → Gathering records old new page.lines page.bytes
-      → length old < page.bytes + line_bytes → Gathered records old page new
-  page_full {page = page} g full = record {
-    lines = sym (g.rest ∙ ap (λ (n : ℕ). page.lines + n) (none_fits _ _ (omega arith)) ∙ (omega arith));
-    bytes = whole g.in_page g.lines;
+  whole_page : {new : OpenLine} {i : ℕ} → Gathering records old new i
+      → Line (command_lines (take i (commands_in records))) old.bytes.now new.end new.bytes.now
+  whole_page g = from_start empty (omega (arith, g.lines.put.ends, g.in_page)) g.lines
+
+  pub page_full : {new : OpenLine} {i : ℕ} → Gathering records old new i → length old.bytes.now < new.end + line_bytes
+      → Gathered records old.bytes.now (record { lines = i; bytes = new.end }) new.bytes.now
+  page_full {i = i} g full = record {
+    lines = sym (g.rest ∙ ap (λ (n : ℕ). i + n) (none_fits _ _ (omega arith)) ∙ (omega arith));
+    bytes = whole_page g;
   }
 
-  pub all_told : {new : List ℕ} {page : Page} → Gathering records old new page.lines page.bytes
-      → length records / 2 ≤ page.lines → Gathered records old page new
+  pub all_told : {new : OpenLine} {i : ℕ} → Gathering records old new i → length records / 2 ≤ i
+      → Gathered records old.bytes.now (record { lines = i; bytes = new.end }) new.bytes.now
   unfolding lines_in
-  all_told {page = page} g last =
-      let all : length (commands_in records) ≤ page.lines = omega (arith, commands_counted records, room_is (length records)) in
+  all_told {i = i} g last =
+      let all : length (commands_in records) ≤ i = omega (arith, commands_counted records, room_is (length records)) in
       record {
         lines = sym (g.rest ∙ rw (drop_of_length-le (commands_in records) all) (omega arith));
-        bytes = whole g.in_page g.lines;
+        bytes = whole_page g;
       }
 
 -- no page tells more lines than there are whole records

@@ -2,7 +2,7 @@
 use Rattle.std.proofs.Common.{rules, arith, ◌≤◌, length}
 use Rattle.members.specs.Strings.{quoted}
 use Rattle.json_lines.specs.Objects.{file_line}
-use Rattle.lines.proofs.Written.{then, whole}
+use Rattle.lines.proofs.Putting.{then, whole}
 use Rattle.members.proofs.Bounds.{text_quoted}
 use Rattle.json_lines.proofs.file_line.Goals as goal
 
@@ -22,4 +22,4 @@ returns c =
     -- the words take six bytes for each at most
     let spoken : length (quoted c.args.words.now) ≤ 3072 = omega (arith, text_quoted c.args.words.now, c.requires.1) in
     let text = then (then c.put_head.ensures c.put_member.ensures) c.put_string.ensures in
-    whole c.new-out.ensures.same_bytes c.new-out.ensures.empty c.len.ensures (search rules) (then (then text c.put_place.ensures) c.put_text.ensures)
+    whole c.new-out.ensures c.len.ensures (search rules) (then (then text c.put_place.ensures) c.put_text.ensures)

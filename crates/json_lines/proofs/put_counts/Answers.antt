@@ -1,6 +1,6 @@
 -- `put_counts` meets its contract: the five counts, each behind the last.
 use Rattle.std.proofs.Common.{rules}
-use Rattle.lines.proofs.Written.{then, at_most}
+use Rattle.lines.proofs.Putting.{then, at_most}
 use Rattle.json_lines.specs.Objects.{counts_text}
 use Rattle.json_lines.proofs.put_counts.Goals as goal
 

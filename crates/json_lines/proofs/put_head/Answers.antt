@@ -1,6 +1,6 @@
 -- `put_head` meets its contract: name, size and verdict, each behind the last.
 use Rattle.std.proofs.Common.{rules}
-use Rattle.lines.proofs.Written.{then, at_most}
+use Rattle.lines.proofs.Putting.{then, at_most}
 use Rattle.json_lines.specs.Objects.{head_text}
 use Rattle.json_lines.proofs.put_head.Goals as goal
 

@@ -1,6 +1,6 @@
 -- `put_place` meets its contract: window, index, dword and count, each behind the last.
 use Rattle.std.proofs.Common.{rules}
-use Rattle.lines.proofs.Written.{then, at_most}
+use Rattle.lines.proofs.Putting.{then, at_most}
 use Rattle.json_lines.specs.Objects.{place_text}
 use Rattle.json_lines.proofs.put_place.Goals as goal
 

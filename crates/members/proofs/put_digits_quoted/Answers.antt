@@ -1,5 +1,5 @@
 -- `put_digits_quoted` meets its contract: the digits between quotation marks.
-use Rattle.lines.proofs.Written.{then}
+use Rattle.lines.proofs.Putting.{then}
 use Rattle.members.proofs.put_digits_quoted.Goals as goal
 
 pub returns : goal.returns

@@ -1,6 +1,6 @@
 -- `put_dword` meets its contract: a dword or null, behind the key.
 use Rattle.std.proofs.Common.{rules}
-use Rattle.lines.proofs.Written.{then, at_most}
+use Rattle.lines.proofs.Putting.{then, at_most}
 use Rattle.members.specs.Members.{dword_text}
 use Rattle.members.proofs.put_dword.Goals as goal
 

@@ -1,5 +1,5 @@
 -- `put_escaped` meets its contract.
-use Rattle.lines.proofs.Written.{then}
+use Rattle.lines.proofs.Putting.{then}
 use Rattle.members.proofs.put_escaped.Goals as goal
 
 pub returns : goal.returns

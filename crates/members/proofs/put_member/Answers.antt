@@ -1,6 +1,6 @@
 -- `put_member` meets its contract: a number or null, behind its key.
 use Rattle.std.proofs.Common.{rules}
-use Rattle.lines.proofs.Written.{then, at_most}
+use Rattle.lines.proofs.Putting.{then, at_most}
 use Rattle.members.specs.Members.{number_text}
 use Rattle.members.proofs.put_member.Goals as goal
 

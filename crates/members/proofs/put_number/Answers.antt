@@ -1,5 +1,5 @@
 -- `put_number` meets its contract: the number behind its key.
-use Rattle.lines.proofs.Written.{then}
+use Rattle.lines.proofs.Putting.{then}
 use Rattle.members.proofs.put_number.Goals as goal
 
 pub returns : goal.returns

@@ -1,6 +1,6 @@
 -- `put_outcome` meets its contract: the word behind the key.
 use Rattle.std.proofs.Common.{rules}
-use Rattle.lines.proofs.Written.{then, at_most}
+use Rattle.lines.proofs.Putting.{then, at_most}
 use Rattle.members.proofs.put_outcome.Goals as goal
 
 pub returns : goal.returns

@@ -2,7 +2,7 @@
 use Rattle.std.proofs.Common.{rules}
 use mathlib.Core.Logic.{⊎_elim}
 use borrow.Author.Tests.{lt-ltb, le-ltb, eq-eqb, ne_eqb}
-use Rattle.lines.proofs.Written.{then, at_most}
+use Rattle.lines.proofs.Putting.{then, at_most}
 use Rattle.members.specs.Strings.{quoted_byte}
 use Rattle.members.proofs.put_quoted_byte.Goals as goal
 

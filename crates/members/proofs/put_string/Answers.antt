@@ -1,5 +1,5 @@
 -- `put_string` meets its contract: the text behind its key.
-use Rattle.lines.proofs.Written.{then}
+use Rattle.lines.proofs.Putting.{then}
 use Rattle.members.proofs.put_string.Goals as goal
 
 pub returns : goal.returns

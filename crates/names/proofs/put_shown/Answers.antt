@@ -1,7 +1,7 @@
 -- `put_shown` meets its contract: the byte as it is, or written out.
 use Rattle.std.proofs.Common.{rules}
 use borrow.Author.Tests.{eq-eqb, ne_eqb}
-use Rattle.lines.proofs.Written.{at_most}
+use Rattle.lines.proofs.Putting.{at_most}
 use Rattle.names.specs.Names.{shown_byte}
 use Rattle.names.proofs.put_shown.Goals as goal
 

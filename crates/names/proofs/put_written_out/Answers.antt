@@ -1,7 +1,7 @@
 -- `put_written_out` meets its contract: two backslashes, or two digits.
 use Rattle.std.proofs.Common.{rules}
 use borrow.Author.Tests.{eq-eqb, ne_eqb}
-use Rattle.lines.proofs.Written.{then, at_most}
+use Rattle.lines.proofs.Putting.{then, at_most}
 use Rattle.names.specs.Names.{written_out}
 use Rattle.names.proofs.put_written_out.Goals as goal
 

@@ -1,5 +1,5 @@
 -- `put_column` meets its contract: the byte stands behind the number.
-use Rattle.lines.proofs.Written.{then}
+use Rattle.lines.proofs.Putting.{then}
 use Rattle.printout.proofs.put_column.Goals as goal
 
 pub returns : goal.returns

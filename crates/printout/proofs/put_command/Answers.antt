@@ -1,7 +1,7 @@
 -- `put_command` meets its contract: four columns, each behind the last.
 use Rattle.std.proofs.Common.{append_assoc}
 use Rattle.rules.specs.Printout.{command_line}
-use Rattle.lines.proofs.Written.{then}
+use Rattle.lines.proofs.Putting.{then}
 use Rattle.printout.proofs.put_command.Goals as goal
 
 pub returns : goal.returns

@@ -1,5 +1,5 @@
 -- `put_labelled` meets its contract: the number stands behind its label.
-use Rattle.lines.proofs.Written.{then}
+use Rattle.lines.proofs.Putting.{then}
 use Rattle.printout.proofs.put_labelled.Goals as goal
 
 pub returns : goal.returns

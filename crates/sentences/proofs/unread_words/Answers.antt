@@ -1,7 +1,7 @@
 -- `unread_words` meets its contract.
 use Rattle.std.proofs.Common.{rules}
-use Rattle.lines.proofs.Written.{whole}
+use Rattle.lines.proofs.Putting.{whole}
 use Rattle.sentences.proofs.unread_words.Goals as goal
 
 pub returns : goal.returns
-returns c = whole c.new-out.ensures.same_bytes c.new-out.ensures.empty c.len.ensures (search rules) c.put_unread.ensures
+returns c = whole c.new-out.ensures c.len.ensures (search rules) c.put_unread.ensures

@@ -1,5 +1,5 @@
 -- `put_address` meets its contract: twelve digits between words.
-use Rattle.lines.proofs.Written.{then}
+use Rattle.lines.proofs.Putting.{then}
 use Rattle.clauses.specs.Clauses.{address_text}
 use Rattle.clauses.proofs.details.put_address.Goals as goal
 

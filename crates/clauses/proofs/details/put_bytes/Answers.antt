@@ -1,7 +1,7 @@
 -- `put_bytes` meets its contract: one byte, or any other number of them.
 use Rattle.std.proofs.Common.{rules}
 use borrow.Author.Tests.{eq-eqb, ne_eqb}
-use Rattle.lines.proofs.Written.{at_most}
+use Rattle.lines.proofs.Putting.{at_most}
 use Rattle.clauses.specs.Clauses.{bytes_text}
 use Rattle.clauses.proofs.details.put_bytes.Goals as goal
 

@@ -1,6 +1,6 @@
 -- `put_detail` meets its contract, by what is known of the refusal.
 use Rattle.std.proofs.Common.{rules}
-use Rattle.lines.proofs.Written.{nothing, at_most}
+use Rattle.lines.proofs.Putting.{nothing, at_most}
 use Rattle.clauses.specs.Clauses.{detail_text}
 use Rattle.clauses.proofs.details.put_detail.Goals as goal
 

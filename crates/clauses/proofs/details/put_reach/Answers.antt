@@ -1,6 +1,6 @@
 -- `put_reach` meets its contract: the command, its access, how many bytes at which address, and where they should lie.
 use Rattle.std.proofs.Common.{rules}
-use Rattle.lines.proofs.Written.{then, at_most}
+use Rattle.lines.proofs.Putting.{then, at_most}
 use Rattle.clauses.specs.Clauses.{reach_text}
 use Rattle.clauses.proofs.details.put_reach.Goals as goal
 

@@ -1,6 +1,6 @@
 -- `put_refusal` meets its contract: the words for the reason, and what happened behind them.
 use Rattle.std.proofs.Common.{rules}
-use Rattle.lines.proofs.Written.{then, at_most}
+use Rattle.lines.proofs.Putting.{then, at_most}
 use Rattle.clauses.specs.Clauses.{refused_words}
 use Rattle.clauses.proofs.details.put_refusal.Goals as goal
 

@@ -1,7 +1,7 @@
 -- `put_size` meets its contract: empty, or so many bytes.
 use Rattle.std.proofs.Common.{rules}
 use borrow.Author.Tests.{eq-eqb, ne_eqb}
-use Rattle.lines.proofs.Written.{then, at_most}
+use Rattle.lines.proofs.Putting.{then, at_most}
 use Rattle.clauses.specs.Clauses.{size_text}
 use Rattle.clauses.proofs.details.put_size.Goals as goal
 

@@ -1,6 +1,6 @@
 -- `put_base` meets its contract, by the base.
 use Rattle.std.proofs.Common.{rules}
-use Rattle.lines.proofs.Written.{at_most}
+use Rattle.lines.proofs.Putting.{at_most}
 use Rattle.clauses.specs.Clauses.{base_text}
 use Rattle.clauses.proofs.parts.put_base.Goals as goal
 

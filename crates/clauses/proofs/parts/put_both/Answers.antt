@@ -1,5 +1,5 @@
 -- `put_both` meets its contract: the second text stands behind the first.
-use Rattle.lines.proofs.Written.{then}
+use Rattle.lines.proofs.Putting.{then}
 use Rattle.clauses.proofs.parts.put_both.Goals as goal
 
 pub returns : goal.returns

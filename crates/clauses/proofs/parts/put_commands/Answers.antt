@@ -1,7 +1,7 @@
 -- `put_commands` meets its contract: one command, or any other number of them.
 use Rattle.std.proofs.Common.{rules}
 use borrow.Author.Tests.{eq-eqb, ne_eqb}
-use Rattle.lines.proofs.Written.{at_most}
+use Rattle.lines.proofs.Putting.{at_most}
 use Rattle.clauses.specs.Clauses.{commands_text}
 use Rattle.clauses.proofs.parts.put_commands.Goals as goal
 

@@ -1,5 +1,5 @@
 -- `put_count` meets its contract: the words stand behind the number.
-use Rattle.lines.proofs.Written.{then}
+use Rattle.lines.proofs.Putting.{then}
 use Rattle.clauses.proofs.parts.put_count.Goals as goal
 
 pub returns : goal.returns

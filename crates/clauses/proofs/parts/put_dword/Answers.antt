@@ -1,5 +1,5 @@
 -- `put_dword` meets its contract: the digits between brackets.
-use Rattle.lines.proofs.Written.{then}
+use Rattle.lines.proofs.Putting.{then}
 use Rattle.clauses.specs.Clauses.{dword_text}
 use Rattle.clauses.proofs.parts.put_dword.Goals as goal
 

@@ -1,7 +1,7 @@
 -- `put_place` meets its contract: the end of the batch, or window, index and dword.
 use Rattle.std.proofs.Common.{rules}
 use borrow.Author.Tests.{eq-eqb, ne_eqb}
-use Rattle.lines.proofs.Written.{then, at_most}
+use Rattle.lines.proofs.Putting.{then, at_most}
 use Rattle.clauses.specs.Clauses.{place_text}
 use Rattle.clauses.proofs.parts.put_place.Goals as goal
 

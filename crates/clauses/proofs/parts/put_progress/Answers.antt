@@ -1,6 +1,6 @@
 -- `put_progress` meets its contract: nothing where there was no walk, and else the place and the commands before it.
 use borrow.Author.Tests.{lt-ltb, le-ltb}
-use Rattle.lines.proofs.Written.{nothing, then}
+use Rattle.lines.proofs.Putting.{nothing, then}
 use Rattle.clauses.specs.Clauses.{progress_text}
 use Rattle.clauses.proofs.parts.put_progress.Goals as goal
 

@@ -1,7 +1,7 @@
 -- `put_error` meets its contract: the words of the table, or the number.
 use Rattle.std.proofs.Common.{rules}
 use borrow.Author.Tests.{lt-ltb, le-ltb}
-use Rattle.lines.proofs.Written.{then, at_most}
+use Rattle.lines.proofs.Putting.{then, at_most}
 use Rattle.clauses.specs.Clauses.{error_text}
 use Rattle.clauses.proofs.why.put_error.Goals as goal
 

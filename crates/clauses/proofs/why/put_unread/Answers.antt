@@ -1,6 +1,6 @@
 -- `put_unread` meets its contract, by why the file was not read.
 use Rattle.std.proofs.Common.{rules}
-use Rattle.lines.proofs.Written.{at_most}
+use Rattle.lines.proofs.Putting.{at_most}
 use Rattle.clauses.specs.Clauses.{unread_words}
 use Rattle.clauses.proofs.why.put_unread.Goals as goal
 

@@ -1,6 +1,6 @@
 -- `put_reason` meets its contract: nothing, or the number and how many.
 use borrow.Author.Tests.{eq-eqb, ne_eqb}
-use Rattle.lines.proofs.Written.{nothing, then}
+use Rattle.lines.proofs.Putting.{nothing, then}
 use Rattle.json_lines.specs.Objects.{reason_text}
 use Rattle.json_lines.proofs.reasons.put_reason.Goals as goal
 

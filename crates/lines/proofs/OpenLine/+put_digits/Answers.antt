@@ -1,6 +1,6 @@
 -- `OpenLine::put_digits` meets its contract, by the digits of the tenth.
 use Rattle.std.proofs.Common.{rules}
-use Rattle.lines.proofs.Written.{no_digit, only_digit, last_digit}
+use Rattle.lines.proofs.Putting.{no_digit, only_digit, last_digit}
 use Rattle.lines.proofs.OpenLine.+put_digits.Goals as goal
 use Rattle.lines.proofs.OpenLine.+put_digits.Goals.{then-n-ge10, else-n-ge10}
 

@@ -1,6 +1,6 @@
 -- `OpenLine::put_hex` meets its contract, by the digits of the sixteenth.
 use Rattle.std.proofs.Common.{rules}
-use Rattle.lines.proofs.Written.{no_hex, last_hex}
+use Rattle.lines.proofs.Putting.{no_hex, last_hex}
 use Rattle.lines.proofs.OpenLine.+put_hex.Goals as goal
 
 pub returns-then-count-eq0 : goal.returns-then-count-eq0

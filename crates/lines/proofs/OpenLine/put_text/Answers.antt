@@ -1,7 +1,7 @@
 -- `OpenLine::put_text` meets its contract: the text copied into its place is put there.
 use Rattle.std.proofs.Common.{refl, ap, ◌∙◌, arith, length}
 use lib.Seq.{length-sets}
-use Rattle.lines.proofs.Written.{copied}
+use Rattle.lines.proofs.Putting.{copied}
 use Rattle.lines.proofs.OpenLine.put_text.Goals as goal
 
 pub returns : goal.returns
