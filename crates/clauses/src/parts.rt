@@ -76,10 +76,7 @@ pub fn put_progress(line: &mut OpenLine, answer: Answer, dword: u32)
     requires { Room 84 line.old }
     ensures { Puts 84 (progress_text answer dword) line.old line.new }
 {
-    if answer.reason < 5 {
-        return;
-    }
-    if 18 < answer.reason {
+    if answer.reason < 5 || 18 < answer.reason {
         return;
     }
     put_place(line, answer, dword);

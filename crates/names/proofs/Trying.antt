@@ -1,6 +1,6 @@
 -- How many bytes of a character stand: the rows tried one behind the other.
 -- Assumes nothing.
-use Prim.Native.Nat.{ℕ, zero, suc, ◌+◌, ◌<◌, ◌≤◌}
+use Prim.Native.Nat.{ℕ, suc, ◌+◌, ◌<◌, ◌≤◌}
 use native.Mathlib.Nat.{add-zero}
 use native.Mathlib.Numerals.{add-one}
 use native.Mathlib.Omega.{arith}
@@ -14,12 +14,6 @@ use Rattle.names.specs.Names.{no_byte, characters, fits, first_fit, standing}
 pub rows : length characters ≡ 15
 unfolding characters
 rows = refl
-
--- a byte of a name is the same whatever stands past its end
-pub within_name : (name : List ℕ) (k d e : ℕ) → k < length name → get_or name k d ≡ get_or name k e
-within_name [] k d e h = absurd (omega arith)
-within_name (byte ∷ rest) zero d e h = refl
-within_name (byte ∷ rest) (suc k) d e h = within_name rest k d e (omega arith)
 
 -- the rows before i do not fit the character at a place
 pub record Trying (name : List ℕ) (at a b c d i : ℕ) : Type 0 where

@@ -11,6 +11,7 @@ ghost use Rattle.names.specs.Names.{no_byte, fits, standing, standing_on, writte
 use lines::{NAME_BYTES, OpenLine};
 
 // How many bytes of a character stand, then the lowest and the highest that each of its four bytes may be. 0 and 256: any byte, or none.
+// (a) The rows are those of the definition `characters`, number by number.
 const CHARACTERS: [[u16; 9]; 15] = [
     [1, 0x20, 0x5B, 0, 256, 0, 256, 0, 256],
     [1, 0x5D, 0x7E, 0, 256, 0, 256, 0, 256],

@@ -42,7 +42,7 @@ pub fn answer_line(out: &mut [u8; 128], answer: Answer) -> usize
     line.len()
 }
 
-// What a record says, by its two words.
+// What a record says, by its two words. (a) The words are those of the C interface, and `rules` owns `Command`: so no `From` can be written here.
 pub fn command(first: u32, second: u32) -> Command
     ensures { result ≡ command_of first second }
 {
@@ -91,6 +91,7 @@ fn put_records(page: &mut OpenLine, records: &[u32]) -> usize
     ensures same_reference { page.new.bytes.ghost_name ≡ page.old.bytes.ghost_name }
     ensures gathered { Gathered records.now page.old.bytes.now (record { lines = result; bytes = page.new.end }) page.new.bytes.now }
 {
+    // (c) tried: of `chunks_exact(2)` the loop knows no word of a chunk without a lemma on its runs
     let count = records.len() / 2;
     for i in 0..count {
         if page.room() < LINE_BYTES {

@@ -1,7 +1,6 @@
 -- `fits` meets its contract: where a byte lies in no range, the character does not fit.
 use Rattle.std.proofs.Common.{arith}
 use Rattle.std.proofs.lemmas.Grind.{common_steps}
-use Rattle.rules.specs.Formats.{between}
 use Rattle.names.specs.Names.{fits}
 use Rattle.names.proofs.fits.Goals as goal
 use Rattle.names.proofs.fits.Goals.{then-contains, else-contains, then-contains-2, else-contains-2}

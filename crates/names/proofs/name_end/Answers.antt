@@ -1,5 +1,5 @@
 -- `name_end` meets its contract, by the place of the next ending byte.
-use Rattle.std.proofs.Common.{rules, arith, sym, ◌∙◌}
+use Rattle.std.proofs.Common.{sym, ◌∙◌}
 use Rattle.std.proofs.lemmas.List.{take_rest}
 use Rattle.names.proofs.Seeking.{ends_there, ends_nowhere}
 use Rattle.names.proofs.name_end.Goals as goal

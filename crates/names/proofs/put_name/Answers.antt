@@ -1,6 +1,6 @@
 -- `put_name` meets its contract: a byte more is shown in each turn.
 use Rattle.std.proofs.Common.{rules}
-use Rattle.names.proofs.Showing.{show_starts, show_goes_on, show_ends}
+use Rattle.names.proofs.Showing.{show_goes_on, show_ends}
 use Rattle.names.proofs.put_name.Goals as goal
 
 pub loop-i-preserved : goal.loop-i-preserved

@@ -1,6 +1,6 @@
 -- `put_command` meets its contract: the name of the command behind a colon.
 use Rattle.std.proofs.Common.{rules}
-use Rattle.lines.proofs.Putting.{at_most, then}
+use Rattle.lines.proofs.Putting.{at_most}
 use Rattle.clauses.specs.Clauses.{command_text}
 use Rattle.clauses.proofs.details.put_command.Goals as goal
 

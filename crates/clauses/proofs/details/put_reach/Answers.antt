@@ -6,7 +6,7 @@ use Rattle.clauses.proofs.details.put_reach.Goals as goal
 
 pub returns : goal.returns
 unfolding reach_text
-returns c = 
+returns c =
     let does = rw c.access_words.ensures.words at c.put_both.ensures in
     let should = rw c.within_words.ensures.words at c.put_both-2.ensures in
     let length = then c.put_text.ensures c.put_bytes.ensures in

@@ -7,11 +7,11 @@ use Rattle.clauses.proofs.why.put_error.Goals as goal
 
 pub returns-then-error-le40 : goal.returns-then-error-le40
 unfolding error_text
-returns-then-error-le40 c = 
+returns-then-error-le40 c =
     simp (le-ltb _ _ c.if-error-le40.true)
     (at_most (search rules) (then c.put_text.ensures (rw c.error_words.ensures.words at c.put_text-then-error-le40.ensures)))
 
 pub returns : goal.returns
 unfolding error_text
-returns c = 
+returns c =
     simp (lt-ltb _ _ c.if-error-le40.false) (at_most (search rules) (then c.put_text.ensures (then c.put_text-2.ensures c.put_decimal.ensures)))

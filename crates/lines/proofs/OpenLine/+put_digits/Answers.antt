@@ -10,6 +10,6 @@ returns-then-most-eq0 t c = no_digit _ _ (search rules)
 pub returns : goal.returns
 returns t c =
     elim c.if-n-ge10.branch [
-    | then-n-ge10 w ↦ last_digit _ _ (search rules) (search rules) w.put_digits.ensures (rw w.self-is at c.put_byte.ensures)
-    | else-n-ge10 w ↦ only_digit _ _ (search rules) (search rules) (rw w.self-is at c.put_byte.ensures)
+      | then-n-ge10 w ↦ last_digit _ _ (search rules) (search rules) w.put_digits.ensures (rw w.self-is at c.put_byte.ensures)
+      | else-n-ge10 w ↦ only_digit _ _ (search rules) (search rules) (rw w.self-is at c.put_byte.ensures)
     ]
