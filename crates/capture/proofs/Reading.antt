@@ -1,6 +1,6 @@
 -- What a file that is not refused has shown, and the promise of `read` by it.
 -- Assumes nothing.
-use Rattle.std.specs.Prelude.{Ok, Err}
+use Rattle.std.specs.Prelude.{Result, Ok, Err}
 use Prim.Native.Nat.{ℕ, ◌+◌, ◌*◌, ◌≤◌}
 use native.Mathlib.Nat.{zero-add}
 use native.Mathlib.Omega.{arith}
@@ -23,7 +23,7 @@ use Rattle.rules.proofs.Readings.{opened_told_lem}
 use Rattle.opening.specs.Offers.{alone}
 use Rattle.opening.proofs.Filling.{length_dwords}
 
-same_contents : {c d : Contents} → Ok c ≡ Ok d → c ≡ d
+same_contents : {c d : Contents} → ◌≡◌ {A = Result Contents Reason} (Ok c) (Ok d) → c ≡ d
 same_contents e = cc
 
 opened_passes : (v : Verdict) (t : Trailer) {contents : Contents} → opened_by v t ≡ Ok contents

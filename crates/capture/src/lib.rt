@@ -20,6 +20,7 @@ pub fn read(file: &[u8], batch: &mut [u32], state: &mut [u32]) -> Result<Content
 }
 
 // The answer for a file that is not read: its place is 0,0, and no command was checked.
+#[tactic(auto, unfolding(rules::specs::File::opened_verdict, rules::specs::Refusals::told, rules::specs::Refusals::answer_with))]
 fn refusal(reason: Reason) -> Answer
     ensures { result ≡ (opened_told (Err reason)).answer }
 {
