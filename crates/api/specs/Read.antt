@@ -1,6 +1,7 @@
 -- What the exported reader promises: the reader's answer as numbers, and every word of the two buffers.
 use Rattle.std.specs.Prelude.{ℕ, ◌^◌, ◌<◌, ◌≡◌, List, length, get_or, Result, Ok, Err}
 use Rattle.rules.specs.declared.Contents.{Contents}
+use Rattle.rules.specs.declared.Reason.{Reason}
 use Rattle.rules.specs.Refusals.{Told}
 use Rattle.rules.specs.File.{opened_of, opened_told, filled_by, batch_dwords, state_dwords}
 use Rattle.api.specs.declared.FileContents.{FileContents}

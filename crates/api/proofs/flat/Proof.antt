@@ -9,16 +9,16 @@ use Rattle.api.proofs.flat.Statement.{statement}
 use Rattle.api.proofs.flat.Tie as tie
 
 -- the contents that are told fit 32 bits each
-small : (c : tie.In-Holds) → SmallContents c.in-Holds.contents
-small c = subst Small c.in-Holds.is c.requires
+small : (c : tie.In-Ok) → SmallContents c.in-Ok.contents
+small c = subst Small c.in-Ok.is c.requires
 
-returns : tie.Need-returns-in-NotRead
+returns : tie.Need-returns-in-Err
 unfolding flat_of opened_verdict numbers_of told answer_with
-returns c = rw (c.in-NotRead.is, c.number.ensures)
+returns c = rw (c.in-Err.is, c.into.ensures)
 
-returns_2 : tie.Need-returns-in-Holds
+returns_2 : tie.Need-returns-in-Ok
 unfolding flat_of opened_verdict numbers_of told answer_with
-returns_2 c = let told = c.before.before.before in rw told.in-Holds.is
+returns_2 c = let told = c.before.before.before in rw told.in-Ok.is
 
 pub flat_spec : {M : Type 1} → statement M
 flat_spec =
