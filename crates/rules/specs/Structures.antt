@@ -1,8 +1,7 @@
 -- Document 01, "State structures", and the blend state of request 1.
-use Rattle.std.specs.Prelude.{ℕ, ◌≡◌, Bool, true, false, not, ◌&&◌, ◌||◌, List, [], ◌∷◌, length, get_or, leb, eqb, Float, Ok, Err, Result, Option, Some, None}
+use Rattle.std.specs.Prelude.{ℕ, ◌≡◌, Bool, true, false, not, ◌&&◌, ◌||◌, List, [], ◌∷◌, length, get_or, leb, eqb, Float, Ok, Err, Option, Some, None}
 use Rattle.std.specs.Float.Ieee.{of_bits, nan_bits, le}
 use Rattle.std.specs.Float.{binary32}
-use Rattle.rules.specs.declared.Fault.{Fault}
 use Rattle.rules.specs.declared.Held.{Held}
 use Rattle.rules.specs.declared.Held.TheVariants.{InBatch, InState}
 use Rattle.rules.specs.declared.Kind.{Kind}

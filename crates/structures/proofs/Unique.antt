@@ -1,6 +1,5 @@
 -- The promise of a structure read admits one answer only.
 -- Assumes nothing.
-use Rattle.std.specs.Prelude.{Result}
 use Prim.Native.Nat.{ℕ}
 use mathlib.Core.Path.{◌≡◌, sym, ◌∙◌}
 use mathlib.Core.List.{List}

@@ -1,5 +1,5 @@
 -- `structures::judged` meets its contract: each way out has its law.
-use Rattle.std.proofs.Common.{rules, ◌≡◌, true, false}
+use Rattle.std.proofs.Common.{rules}
 use mathlib.Core.Path.{refl, sym, ◌∙◌}
 use Rattle.structures.proofs.Judging.{not_held, bit_wrong_lem, value_wrong_lem, all_well, found_below}
 use Rattle.structures.proofs.judged.Goals as goal

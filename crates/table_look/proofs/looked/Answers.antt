@@ -1,5 +1,4 @@
 -- `table_look::looked` meets its contract: past the table's rows there is none.
-use Rattle.std.proofs.Common.{rules}
 use native.Mathlib.Omega.{arith}
 use Rattle.rules.specs.Commands.{row_count}
 use Rattle.rows.proofs.RowLaws.{past}

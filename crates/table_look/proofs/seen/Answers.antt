@@ -1,15 +1,12 @@
 -- `table_look::seen` meets its contract: one law for each way out, in the order of the checks.
-use Rattle.std.proofs.Common.{rules, ◌≡◌, ◌+◌, ◌-◌, ◌≤◌, ◌<◌, true, length, Err, Ok}
-use mathlib.Core.Path.{refl, sym, ap, ◌∙◌}
+use Rattle.std.proofs.Common.{rules, ◌≡◌, ◌+◌, ◌-◌, ◌≤◌, length, Err, Ok}
+use mathlib.Core.Path.{refl, sym, ◌∙◌}
 use native.Mathlib.Omega.{arith}
-use lib.Dec.{ltb}
-use Rattle.rules.specs.Commands.{length_right, row_count}
-use Rattle.rules.specs.Step.{header_at, row_at, length_at, dwords_at}
-use Rattle.looks.specs.Looks.{Look, content_of}
+use Rattle.rules.specs.Step.{row_at, length_at}
+use Rattle.looks.specs.Looks.{Look}
 use Rattle.looks.proofs.LookLaws.{content_look, whole_look}
 use Rattle.table_look.proofs.Contents.{length_is, right_is, content_same, unfit_look, right_passed, long_passed, whole_part, part_below}
 use Rattle.table_look.proofs.seen.Goals as goal
-
 
 pub returns-then-right-batch : goal.returns-then-right-batch
 returns-then-right-batch c =
@@ -35,7 +32,7 @@ returns-in_err-content_fault c =
     let counted = length_is c.args.batch.now c.args.at c.requires.1 c.length_of-length.ensures in
     let room : c.length_of-length.result ≤ length c.args.batch.now - c.args.at = long_passed _ _ _ c.if-right-batch.false in
     let right =
-        right_is c.args.batch.now c.args.at c.requires.1 c.length_right-right.ensures refl ∙ right_passed c.length_right-right.result _ c.if-right-batch.false in
+    right_is c.args.batch.now c.args.at c.requires.1 c.length_right-right.ensures refl ∙ right_passed c.length_right-right.result _ c.if-right-batch.false in
     let stopped : ◌≡◌ {A = Look} c.from_residual.result (Err c.in_err-content_fault.field-0.0) = search rules in
     stopped
     ∙ content_look _ _ _ _ (omega (arith, c.requires.1, c.requires.2)) right (omega (arith, counted, room, c.requires.0))
@@ -46,9 +43,9 @@ returns c =
     let counted = length_is c.args.batch.now c.args.at c.requires.1 c.length_of-length.ensures in
     let room : c.length_of-length.result ≤ length c.args.batch.now - c.args.at = long_passed _ _ _ c.if-right-batch.false in
     let right =
-        right_is c.args.batch.now c.args.at c.requires.1 c.length_right-right.ensures refl ∙ right_passed c.length_right-right.result _ c.if-right-batch.false in
+    right_is c.args.batch.now c.args.at c.requires.1 c.length_right-right.ensures refl ∙ right_passed c.length_right-right.result _ c.if-right-batch.false in
     let whole : ◌≡◌ {A = Look} (Ok (c.args.row, c.length_of-length.result)) (Ok (row_at c.args.batch.now c.args.at, length_at c.args.batch.now c.args.at)) =
-        rw (c.requires.1, counted) in
+    rw (c.requires.1, counted) in
     whole
     ∙ whole_look _ _ _ _ (omega (arith, c.requires.1, c.requires.2)) right (omega (arith, counted, room, c.requires.0))
     (sym (content_same _ c.args.batch.now c.args.at _ c.requires.1 counted) ∙ sym c.content_fault.ensures ∙ c.in_ok-content_fault.was)

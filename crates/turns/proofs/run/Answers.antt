@@ -1,11 +1,11 @@
 -- `turns::run` meets its contract: each way out of a turn, and the turn itself, is a law of Looping.
-use Rattle.std.proofs.Common.{rules, ◌≡◌, ◌+◌, ◌*◌, ◌<◌, ◌≤◌, ℕ, length, Option, Some, Ok}
+use Rattle.std.proofs.Common.{rules, ◌≡◌, ◌+◌, ◌*◌, ◌<◌, length, Option, Some, Ok}
 use native.Mathlib.Omega.{arith}
 use mathlib.Core.Path.{refl, sym, ap, ◌∙◌}
 use Rattle.rules.specs.declared.Command.{Command}
 use Rattle.rules.specs.declared.Cursor.{Cursor}
 use Rattle.rules.specs.Formats.{surface_formats}
-use Rattle.rules.specs.Step.{Outcome, step_of}
+use Rattle.rules.specs.Step.{Outcome}
 use Rattle.rules.proofs.Recording.{fits_record}
 use Rattle.rules.proofs.Listing.{room_is}
 use Rattle.turns.proofs.Looping.{started, from_start, stops, refused, full, last, next, none_left_there, some_left, level_is}
