@@ -31,7 +31,7 @@ pub enum Reason {
     NoRoom,
 }
 
-// A reason and its place: window 0 is the batch, window 1 the state.
+// A reason and its place: window 0 is the batch, window 1 the state. The window is a number, as document 01 has it and C is answered (`Answer`).
 #[derive(Clone, Copy, PartialEq, Eq)]
 pub struct Fault {
     pub reason: Reason,
@@ -116,7 +116,8 @@ pub enum Reading {
     Unreadable(Fault),
 }
 
-// The level of a run. At the second the position to return to is kept.
+// The level of a run. At the second the position to return to is kept. It is no `Option` of that position: `First` and `Second` are document 01's words, and
+// `None` for the first level would say less.
 #[derive(Clone, Copy, PartialEq, Eq)]
 pub enum Level {
     First,

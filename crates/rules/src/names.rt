@@ -1,4 +1,6 @@
-// The rows of document 01's command table and of request 1 by name, in the table's order, and how many there are.
+// The rows of document 01's command table and of request 1 by name, in the table's order, and how many there are. They are numbers and no enum: records
+// hold them, C hands them to the writer, a table is indexed by them, and `rows::length_of`, `rows::group_size` and `uses::access_of` answer for every number,
+// as their definitions do, also for ROWS, which is that of a header in no row.
 pub const NOOP_ROW: usize = 0;
 
 pub const END_ROW: usize = 1;

@@ -50,6 +50,7 @@ fn wrong_at(
     }
 }
 
+// The two loops and the label are the form that document 01 names for this search.
 // The first dword of the command that is what is looked for, or the number of its dwords where none is. Only a store may end inside its group, since one of
 // four bytes has a dword less: so for every other row no dword is asked whether it is still one of the command's. With the row's number written out, as
 // its caller has it, the compiler makes of this one search a search for each row, in which the group's size, the masks and the rules of its dwords are
