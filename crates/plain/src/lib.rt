@@ -5,6 +5,7 @@ ghost use Rattle.rules.specs.declared.BaseChoice.TheVariants.{StateWindow};
 ghost use Rattle.rules.specs.Records.{CheckedFrom};
 ghost use Rattle.walk.specs.Lent.{lent_capture};
 
+use plain_look::Plain;
 use rules::{Answer, BaseChoice};
 
 // THE PUBLIC CALL of the plain engine, from the base that is chosen, with the table engine's promise: whether the capture runs to its end, and the
@@ -21,8 +22,7 @@ pub fn check_from<'a>(
 ) -> Answer
     ensures { CheckedFrom choice (lent_capture batch.now batch_at state.now state_at scratch_at scratch_len) records.old result records.new }
 {
-    walk::check_by(
-        true,
+    walk::check_by::<Plain>(
         choice,
         batch,
         batch_at,

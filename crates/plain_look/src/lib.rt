@@ -5,10 +5,10 @@ ghost use Rattle.std.specs.Prelude.{◌≡◌, ◌+◌, ◌<◌, length, get_or,
 ghost use Rattle.rules.specs.declared.Level.TheVariants.{First};
 ghost use Rattle.rules.specs.Words.{field};
 ghost use Rattle.rules.specs.Commands.{store_row, row_of};
-ghost use Rattle.looks.specs.Looks.{look_of};
 ghost use Rattle.plain_shared.specs.Plain.{as_number, wrong_of};
 ghost use Rattle.plain_look.specs.Seeing.{OfType3, Sees};
 
+use looks::Engine;
 use plain_3d::type_3;
 use plain_mi::type_0;
 use plain_shared::heads::length_by_field;
@@ -103,14 +103,14 @@ fn seen_of_type_3(batch: &[u32], at: usize, w: Windows) -> Seen
     }
 }
 
-// The checks 7 to 13 of the command at the position.
-pub fn looked(batch: &[u32], w: Windows, at: usize, level: Level) -> Result<(usize, usize), Fault>
-    requires { at < length batch.now }
-    ensures { result ≡ look_of w batch.now at level }
-{
-    let (row, length, wrong) = seen_by_header(batch, at, w, level);
-    match wrong {
-        Ok(()) => Ok((row, length)),
-        Err(wrong) => Err(wrong.fault(at)),
+// The plain engine. It has nothing with it: its rules are written out.
+pub struct Plain;
+
+impl Engine for Plain {
+    fn looked(batch: &[u32], w: Windows, at: usize, level: Level) -> Result<(usize, usize), Fault> {
+        let (row, length, wrong) = seen_by_header(batch, at, w, level);
+        match wrong {
+            Ok(()) => Ok((row, length)),
+            Err(wrong) => Err(wrong.fault(at)),
     }
 }

@@ -18,10 +18,10 @@ use rules::names::{
 };
 
 // The table of allowed bits. It is written out wherever it is asked for, so a caller asks once and lends it on.
-pub fn mask_table() -> [[u32; 16]; ROWS]
-    ensures { result ≡ mask_table }
+pub fn mask_table() -> &'static [[u32; 16]; ROWS]
+    ensures { result.now ≡ mask_table }
 {
-    MASKS
+    &MASKS
 }
 
 // The row of a header by its bits 31:16, of the rows of type 3, or ROWS where these have none with that key. The topology is asked for first, by a test of

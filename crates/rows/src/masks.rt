@@ -2,7 +2,7 @@
 // dword 0; past a row's last dword nothing is allowed.
 use rules::names::ROWS;
 
-pub const MASKS: [[u32; 16]; ROWS] = [
+pub static MASKS: [[u32; 16]; ROWS] = [
     // MI_NOOP
     [
         0x003F_FFFF,

@@ -2,31 +2,24 @@
 #![tactic(auto)]
 
 ghost use Rattle.std.specs.Prelude.{◌≡◌, length};
-ghost use Rattle.rules.specs.Formats.{surface_formats};
 ghost use Rattle.rules.specs.Step.{step_of};
-ghost use Rattle.rows.specs.Masks.{mask_table};
 ghost use Rattle.step.specs.Parts.{captured, Fitted, SmallBase};
 
-use engines::looked;
 use faults::{pointer_of, structure_fault};
+use looks::Engine;
 use onward::{level_number, move_of};
-use rules::names::ROWS;
 use rules::{Command, Cursor, Fault, Reason, Windows};
 
-mod engines;
 mod faults;
 
-// One step of the walk: the first fault of the command at the cursor (6 to 17), or the command and where it leads. By either engine.
-pub fn step<'a>(
-    plainly: bool,
+// One step of the walk: the first fault of the command at the cursor (6 to 17), or the command and where it leads.
+pub fn step<'a, E: Engine>(
     batch: &'a [u32],
     state: &'a [u32],
     w: Windows,
     s: Cursor,
-    masks: &[[u32; 16]; ROWS],
-    formats: &[u16; 512],
 ) -> Result<(Command, Option<Cursor>), Fault>
-    requires { (Fitted w batch.now state.now) × (SmallBase s.base) × (masks.now ≡ mask_table) × (formats.now ≡ surface_formats) }
+    requires { (Fitted w batch.now state.now) × (SmallBase s.base) }
     ensures { result ≡ step_of (captured w batch.now state.now) s }
 {
     let at = s.at;
@@ -36,7 +29,7 @@ pub fn step<'a>(
         return Err(Fault::in_batch(Reason::RanOff, at));
     }
     // `?` in the place of the two tests costs four instructions in every command of the plain engine.
-    match looked(plainly, batch, w, at, level, masks, formats) {
+    match E::looked(batch, w, at, level) {
         Err(f) => Err(f),
         Ok((row, length)) => {
             let next = at + length;

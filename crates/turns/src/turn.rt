@@ -21,7 +21,8 @@ pub struct Turn {
     pub level: usize,
 }
 
-// The number is made by a test, since the compiler then knows of it that it is 0 or 1, and it can go into a record as it is.
+// The number is made by a test, since the compiler then knows of it that it is 0 or 1, and it can go into a record as it is: with
+// `onward::level_number` a no-op takes two instructions more by the plain engine, 31 for 29, and with no `Turn` at all 34.
 pub fn turn_at(s: Cursor) -> Turn
     ensures { (result.cursor ≡ s) × (result.level ≡ level_number result.cursor.level) }
 {

@@ -9,8 +9,10 @@ ghost use Rattle.rules.specs.Walk.{starting_base};
 ghost use Rattle.rules.specs.Records.{CheckedFrom};
 ghost use Rattle.walk.specs.Lent.{lent_capture};
 
+use looks::Engine;
 use records::answers::refusal;
 use rules::{Answer, BaseChoice, Window, Windows};
+use table_look::Table;
 use turns::run;
 
 // The windows of a capture, as numbers.
@@ -47,8 +49,7 @@ fn starting_base(choice: BaseChoice, state_at: u64) -> Option<u64>
 // Whether the capture runs to its end by one of the engines, the plain one or else the table's, from the base that is chosen, and the records of its
 // commands. It is for the engines' own calls, and a program has those of one: one that reaches both engines through this loop pays for it in every command.
 // Which engine is a bool and no enum, which would be passed by its address, and cost the plain engine instructions in many commands.
-pub fn check_by<'a>(
-    plainly: bool,
+pub fn check_by<'a, E: Engine>(
     choice: BaseChoice,
     batch: &'a [u32],
     batch_at: u64,
@@ -65,7 +66,7 @@ pub fn check_by<'a>(
         return refusal(f, 0);
     }
     let base = starting_base(choice, state_at);
-    run(plainly, batch, state, w, base, records)
+    run::<E>(batch, state, w, base, records)
 }
 
 // THE PUBLIC CALL of the table engine, from the base that is chosen: whether the capture runs to its end, and the records of its commands.
@@ -81,8 +82,7 @@ pub fn check_from<'a>(
 ) -> Answer
     ensures { CheckedFrom choice (lent_capture batch.now batch_at state.now state_at scratch_at scratch_len) records.old result records.new }
 {
-    check_by(
-        false,
+    check_by::<Table>(
         choice,
         batch,
         batch_at,

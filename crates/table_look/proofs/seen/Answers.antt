@@ -23,8 +23,6 @@ content_fault-requires c =
       c.requires.2,
       whole_part c.args.batch.now c.args.at c.requires.2 (sym c.length_right-right.ensures ∙ right) c.length_of-length.ensures within,
       omega (arith, part_below c.args.batch.now c.args.at c.length_of-length.result within, c.ranges.at.fits),
-      c.requires.3,
-      c.requires.4,
     )
 
 pub returns-in_err-content_fault : goal.returns-in_err-content_fault

@@ -7,9 +7,9 @@ use Rattle.turns.proofs.Looping.{Going}
 use Rattle.turns.proofs.run.Given as goal
 
 abbrev pub invariant-loop-f : goal.invariant-loop-f
-invariant-loop-f l =
+invariant-loop-f g l =
     (Going l.initial.turn.cursor.base (captured l.w l.batch l.state) l.fn.records l.records l.n l.turn.cursor) × (l.n ≤ l.room)
     × (l.turn.level ≡ level_number l.turn.cursor.level)
 
 abbrev pub decreases-loop-f : goal.decreases-loop-f
-decreases-loop-f l = l.room - l.n
+decreases-loop-f g l = l.room - l.n

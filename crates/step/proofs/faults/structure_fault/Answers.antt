@@ -1,5 +1,5 @@
 -- `step::faults::structure_fault` meets its contract: no pointer, no base, or what the read of its kind says.
-use Rattle.std.proofs.Common.{rules, ◌≡◌, Option, Some, ℕ}
+use Rattle.std.proofs.Common.{◌≡◌, Option, Some, ℕ}
 use mathlib.Core.Path.{ap, ◌∙◌}
 use Rattle.rules.specs.declared.Kind.{Kind}
 use Rattle.step.proofs.Structural.{unpointed, unbased, read}

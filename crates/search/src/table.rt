@@ -1,6 +1,17 @@
 // How many bits an element has, for each code of a surface format; 0 for a code that no element can have.
-// Every sixteenth has its code behind it. The table stands where it is lent from, which is where it is shown to be the definitions'.
-pub const SURFACE_FORMATS: [u16; 512] = [
+ghost use Rattle.std.specs.Prelude.{◌≡◌};
+ghost use Rattle.rules.specs.Formats.{surface_formats};
+
+// The table as it is lent: here it is shown to be the definitions'.
+#[tactic(auto, unfolding(rules::specs::Formats::surface_formats))]
+pub fn format_table() -> &'static [u16; 512]
+    ensures { result.now ≡ surface_formats }
+{
+    &SURFACE_FORMATS
+}
+
+// Every sixteenth has its code behind it.
+static SURFACE_FORMATS: [u16; 512] = [
     128, // 000h
     128, 128, 128, 128, 128, 128, 128, 128, 0, 0, 0, 0, 0, 0, 0, 0, // 010h
     0, 0, 0, 0, 0, 0, 0, 0, 0, 0, 0, 0, 0, 0, 0, 128, // 020h

@@ -1,0 +1,5 @@
+-- `plain::check` meets its promise: that of `check_from` from the state window.
+use Rattle.plain.proofs.check.Goals as goal
+
+pub returns : goal.returns
+returns c = c.check_from.ensures
