@@ -46,9 +46,7 @@ fn starting_base(choice: BaseChoice, state_at: u64) -> Option<u64>
     }
 }
 
-// Whether the capture runs to its end by one of the engines, the plain one or else the table's, from the base that is chosen, and the records of its
-// commands. It is for the engines' own calls, and a program has those of one: one that reaches both engines through this loop pays for it in every command.
-// Which engine is a bool and no enum, which would be passed by its address, and cost the plain engine instructions in many commands.
+// Whether the capture runs to its end by an engine, from the base that is chosen, and the records of its commands. It is for the engines' own calls.
 pub fn check_by<'a, E: Engine>(
     choice: BaseChoice,
     batch: &'a [u32],
