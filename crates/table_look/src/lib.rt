@@ -32,8 +32,8 @@ fn is_nested(row: usize, level: Level) -> bool
 }
 
 // The first fault of the command's dwords, in the order of 10 to 13. All three searches are made before any is asked: a command that passes needs them all, and
-// the compiler makes of each a search for the row only where no test that may leave stands before it. With that for bits made first, groups of vertex buffers and
-// topologies take 6 % more instructions.
+// the compiler makes of each a search for the row only where no test that may leave stands before it. With that for bits made first, topologies take
+// 33 % more instructions and vertex buffers 6 %.
 fn content_fault(
     w: Windows,
     row: usize,
