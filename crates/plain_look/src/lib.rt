@@ -112,5 +112,6 @@ impl Engine for Plain {
         match wrong {
             Ok(()) => Ok((row, length)),
             Err(wrong) => Err(wrong.fault(at)),
+        }
     }
 }
