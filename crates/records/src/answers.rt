@@ -20,6 +20,7 @@ pub fn refusal(f: Fault, count: usize) -> Answer
 }
 
 // The answer of a run that ended after so many commands.
+#[tactic(auto, unfolding(rules::specs::Refusals::answer_with))]
 pub fn acceptance(count: usize) -> Answer
     requires { count < 2 ^ 32 }
     ensures { result ≡ answer_with (Ok tt) count }

@@ -9,6 +9,7 @@ use rules::Command;
 pub mod answers;
 
 // The first word of a command's record: where it stands, and its level, which is given beside it, as the loop has it at hand.
+#[tactic(auto, unfolding(rules::specs::Records::first_word))]
 fn first_word(level: usize, c: Command) -> u32
     requires { (Recordable c) × (level ≡ c.level) }
     ensures { result ≡ first_word c }
@@ -17,6 +18,7 @@ fn first_word(level: usize, c: Command) -> u32
 }
 
 // The second: how long it is, and its row.
+#[tactic(auto, unfolding(rules::specs::Records::second_word))]
 fn second_word(c: Command) -> u32
     requires { Recordable c }
     ensures { result ≡ second_word c }
