@@ -4,7 +4,7 @@
 ghost use Rattle.std.specs.Prelude.{◌≡◌, Err};
 ghost use Rattle.rules.specs.File.{FileRead, opened_told, JudgedFrom};
 
-use opening::{SCRATCH_BYTES, examine, fill, trailer_word};
+use opening::{Trailer, examine, fill};
 use rules::{Answer, BaseChoice, Contents, Reason};
 
 // Reads a capture file into two lent buffers. A file that is refused leaves both as they were.
@@ -47,7 +47,7 @@ pub fn judge(
         Ok(contents) => {
             let first = contents.batch.count;
             let second = contents.state.count;
-            let scratch = trailer_word(file, SCRATCH_BYTES);
+            let scratch = Trailer::of(file).scratch_bytes;
             walk::check_from(
                 choice,
                 &batch[..first],
