@@ -7,14 +7,18 @@ use native.Mathlib.Omega.{arith}
 use mathlib.Core.Path.{◌≡◌, refl, sym, ap, ◌∙◌}
 use mathlib.Core.Bool.{Bool, true, false, not, ◌||◌}
 use mathlib.Core.List.{List, [], ◌∷◌, ◌++◌, append_assoc}
-use lib.ListN.{length, take, drop, set}
+use lib.ListN.{length, get_or, take, drop, set}
+use native.Mathlib.Nat.{mod-lt}
 use lib.Seq.{append_snoc, take_at, paste, take-suc-set, drop-set-lt, take-length}
 use lib.Dec.{eqb}
 use borrow.Author.Tests.{eqb-true, eq-eqb, ne_eqb, not-true}
-use Rattle.rules.specs.Words.{in_group}
+use Rattle.rules.specs.Words.{allowed, in_group}
 use Rattle.rules.specs.Commands.{Length, no_field, exactly, by_bit, groups, rows, row_count, the_row, group_size}
-use Rattle.rules.specs.Writer.{count_right, some_from, written_by}
+use Rattle.rules.specs.Masks.{allowed_of, allowed_at, bit_wrong}
+use Rattle.rows.proofs.RowLaws.{size_small, some_size}
+use Rattle.rules.specs.Writer.{count_right, header_for, some_from, written_by}
 use Rattle.rules.proofs.Searching.{never_both}
+use Rattle.rules.proofs.Writing.{made_small, field_of_count}
 use Rattle.rules.proofs.Tables.{each, at_each}
 use Rattle.rules.proofs.HeaderParts.{fielded}
 
@@ -47,6 +51,27 @@ module _ {bad : ℕ → Bool} {len k : ℕ} (l : Left bad len k) where
 pub place_is : (size k : ℕ) → 1 ≤ k → 1 + (k - 1) % size ≡ in_group size k
 unfolding in_group
 place_is size k h = rw (ne_eqb k 0 (λ q. omega arith))
+
+-- behind the header a group has dwords, and no more than fifteen
+pub place_few : (r k len : ℕ) → r < row_count → (group_size r ≡ 0 → len ≤ 1) → 1 ≤ k → k < len → 1 + (k - 1) % group_size r < 16
+place_few r k len known none from h =
+    omega (arith, mod-lt (k - 1) (some_size (group_size r) len none (omega arith)), size_small r known)
+
+-- what the code asks of a dword
+pub asked : (row size k : ℕ) (d : List ℕ) {wrong : Bool} → wrong ≡ not (allowed (get_or d k 0) (allowed_of row d k (1 + (k - 1) % size)))
+    → size ≡ group_size row → 1 ≤ k → wrong ≡ bit_wrong row d k
+unfolding bit_wrong allowed_at
+asked row size k d e same from =
+    e
+    ∙ ap (λ (j : ℕ). not (allowed (get_or d k 0) (allowed_of row d k j)))
+    (ap (λ (n : ℕ). 1 + (k - 1) % n) same ∙ place_is (group_size row) k from)
+
+-- the header as a sum, which fits a dword
+pub header_small : (r free n : ℕ) → r < row_count → count_right (the_row r).total (group_size r) free n ≡ true → allowed free (the_row r).free ≡ true
+    → (the_row r).key + (free + (n - 1)) < 2 ^ 32
+unfolding header_for
+header_small r free n known count kept =
+    rw (field_of_count (the_row r).total (group_size r) free n count) at (made_small r free n known count kept)
 
 -- a header, and a copy of the dwords behind it
 pub copied : (old dwords : List ℕ) (first header : ℕ) → first + (1 + length dwords) ≤ length old

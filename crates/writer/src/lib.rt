@@ -10,6 +10,7 @@ ghost use Rattle.rules.specs.Writer.{draft, count_right, header_for, some_from, 
 ghost use Rattle.rows.specs.Masks.{mask_table};
 
 use commands::bits::bit_wrong;
+use records::answers::{acceptance, refusal};
 use rows::headers::{free_bits, key};
 use rows::{group_size, length_of, length_right, mask_table};
 use rules::names::ROWS;
@@ -42,10 +43,7 @@ fn header_for(row: usize, free: u32, n: usize) -> u32
     requires { (row < row_count) × (count_right (the_row row).total (group_size row) free n ≡ true) × (allowed free (the_row row).free ≡ true) }
     ensures { result ≡ header_for row free n }
 {
-    if n == 0 {
-        return key(row) + free;
-    }
-    key(row) + (free + (n as u32 - 1))
+    key(row) + (free + n.saturating_sub(1) as u32)
 }
 
 // Puts a header and the dwords after it into a buffer that has room for them.
@@ -53,12 +51,9 @@ fn put(header: u32, dwords: &[u32], into: &mut [u32], first: usize)
     requires { first + (1 + length dwords.now) ≤ length into.old }
     ensures { into.new ≡ written_by (Ok tt) (header ∷ dwords.now) first into.old }
 {
+    let behind = first + 1;
     into[first] = header;
-    let mut i = 0;
-    while i < dwords.len() {
-        into[first + 1 + i] = dwords[i];
-        i += 1;
-    }
+    into[behind..behind + dwords.len()].copy_from_slice(dwords);
 }
 
 // Whether the dwords behind the header have no bit that 10 refuses. The row's masks are lent.
@@ -67,12 +62,10 @@ fn bits_kept(row: usize, command: &[u32], masks: &[u32; 16]) -> bool
     ensures { result ≡ not (some_from (bit_wrong row command.now) 1 (length command.now - 1)) }
 {
     let size = group_size(row);
-    let mut k = 1;
-    while k < command.len() {
+    for k in 1..command.len() {
         if bit_wrong(row, command, k, 1 + (k - 1) % size, masks) {
             return false;
         }
-        k += 1;
     }
     true
 }
@@ -93,10 +86,7 @@ fn dwords_kept(row: usize, header: u32, dwords: &[u32]) -> bool
 fn room_short(room: usize, first: usize, dwords: usize) -> bool
     ensures { result ≡ ltb room (first + (1 + dwords)) }
 {
-    if room <= first {
-        return true;
-    }
-    room - first - 1 < dwords
+    room.saturating_sub(first) <= dwords
 }
 
 // The refusals in their order, each with the place 0,0. Nothing is written here.
@@ -124,36 +114,16 @@ fn judged(row: usize, free: u32, dwords: &[u32], room: usize, first: usize) -> R
     Ok(())
 }
 
-// The answer to a refusal.
-#[tactic(auto, unfolding(rules::specs::Refusals::answer_with))]
-fn refused(fault: Fault) -> Answer
-    requires { (fault.window ≡ 0) × (fault.index ≡ 0) }
-    ensures { result ≡ answer_with (Err fault) 0 }
-{
-    let reason = fault.reason;
-    Answer {
-        reason: reason.into(),
-        window: 0,
-        index: 0,
-        count: 0,
-    }
-}
-
 // Writes a command at the first free dword of a lent buffer, or refuses it and leaves the buffer as it was.
 pub fn write(row: u32, free: u32, dwords: &[u32], batch: &mut [u32], first: usize) -> Answer
     ensures { Written row free dwords.now first batch.old result batch.new }
 {
     let at = row as usize;
     match judged(at, free, dwords, batch.len(), first) {
-        Err(fault) => refused(fault),
+        Err(fault) => refusal(fault, 0),
         Ok(()) => {
             put(header_for(at, free, dwords.len()), dwords, batch, first);
-            Answer {
-                reason: 0,
-                window: 0,
-                index: 0,
-                count: 1,
-            }
+            acceptance(1)
         }
     }
 }
