@@ -1,8 +1,8 @@
 // Turning an old listing, of records of one word, into the new form of two words (request 7): the words of the one in, those of the other in a lent buffer out.
 #![tactic(auto)]
 
-ghost use Rattle.std.specs.Prelude.{◌≡◌, ◌≤◌, length, get_or, Ok, Err};
-ghost use Rattle.rules.specs.Words.{first_of};
+ghost use Rattle.std.specs.Prelude.{◌≡◌, ◌≤◌, length, Ok, Err};
+ghost use Rattle.std.specs.List.{position};
 ghost use Rattle.rules.specs.Refusals.{batch_window, fault};
 ghost use Rattle.rules.specs.Records.{first_word, second_word, words_for};
 ghost use Rattle.rules.specs.Listings.{old_command_of, stray_bits, long_answer, turned_by, Turned};
@@ -18,19 +18,13 @@ fn stray(word: u32) -> bool
 
 // The first old word that has one.
 fn first_stray(old: &[u32]) -> Option<usize>
-    ensures { result ≡ first_of (λ i. stray_bits (get_or old.now i 0)) (length old.now) }
+    ensures { result ≡ position (λ word. stray_bits word) old.now }
 {
-    let mut i = 0;
-    while i < old.len() {
-        if stray(old[i]) {
-            return Some(i);
-        }
-        i += 1;
-    }
-    None
+    old.iter().position(|word| stray(*word))
 }
 
 // The first word of the new record: the index, and the level in bit 16, which was bit 12.
+#[tactic(auto, unfolding(rules::specs::Records::first_word, rules::specs::Listings::old_command_of))]
 fn first_word(word: u32) -> u32
     ensures { result ≡ first_word (old_command_of word) }
 {
@@ -38,6 +32,7 @@ fn first_word(word: u32) -> u32
 }
 
 // The second: length and row, in their old bits.
+#[tactic(auto, unfolding(rules::specs::Records::second_word, rules::specs::Listings::old_command_of))]
 fn second_word(word: u32) -> u32
     ensures { result ≡ second_word (old_command_of word) }
 {
@@ -49,14 +44,9 @@ fn fill(old: &[u32], new: &mut [u32])
     requires { words_for (length old.now) ≤ length new.old }
     ensures { new.new ≡ turned_by (Ok tt) old.now new.old }
 {
-    let mut i = 0;
-    while i < old.len() {
-        let word = old[i];
-        let first = 2 * i;
-        let second = first + 1;
-        new[first] = first_word(word);
-        new[second] = second_word(word);
-        i += 1;
+    for (i, word) in old.iter().enumerate() {
+        new[2 * i] = first_word(*word);
+        new[2 * i + 1] = second_word(*word);
     }
 }
 
