@@ -1,5 +1,5 @@
 -- What happened at a refused command: where it stands, told by the records of the commands before it, which it is, and what it reaches.
-use Rattle.std.specs.Prelude.{ℕ, ◌+◌, ◌-◌, ◌/◌, Bool, cond, ◌&&◌, List, [], ◌∷◌, length, take, eqb, leb, ltb}
+use Rattle.std.specs.Prelude.{ℕ, ◌+◌, ◌-◌, ◌*◌, ◌/◌, Bool, cond, ◌&&◌, List, [], ◌∷◌, length, get_or, take, eqb, leb, ltb}
 use Rattle.rules.specs.declared.Access.{Access}
 use Rattle.rules.specs.declared.Access.TheVariants.{Unused, Reaches, NoRange}
 use Rattle.rules.specs.declared.Answer.{Answer}
@@ -7,9 +7,13 @@ use Rattle.rules.specs.declared.Command.{Command}
 use Rattle.rules.specs.Commands.{end_row, start_row}
 use Rattle.rules.specs.Uses.{address_at, access_at}
 use Rattle.rules.specs.Step.{row_at, length_at, dwords_at}
-use Rattle.rules.specs.Records.{commands_in, words_for}
+use Rattle.rules.specs.Records.{command_of, commands_in, words_for}
 use Rattle.clauses.specs.declared.Detail.{Detail}
 use Rattle.clauses.specs.declared.Detail.TheVariants.{NoMore, InCommand, Reach}
+
+-- the command that the two words of a record name, by the record's number
+abbrev pub command_named : List ℕ → ℕ → Command
+command_named records i = command_of (get_or records (2 * i) 0) (get_or records (2 * i + 1) 0)
 
 -- the position behind a command
 abbrev pub behind : Command → ℕ

@@ -1,37 +1,45 @@
 // What happened at a refused command: where it stands, told by the records of the commands before it, which it is, and what it reaches.
 #![tactic(auto)]
 
-ghost use Rattle.std.specs.Prelude.{◌≡◌, ◌-◌, ◌≤◌, ◌<◌, length, take};
+ghost use Rattle.std.specs.Prelude.{◌≡◌, ◌+◌, ◌≤◌, ◌<◌, length, take};
 ghost use Rattle.rules.specs.Commands.{spot};
-ghost use Rattle.rules.specs.Records.{command_of, commands_in, words_for};
-ghost use Rattle.causes.specs.Causes.{behind, kept_by, leads_to, kept_after, position_after, reach_of, reach_with, reach_at, of_command, detail_at, cause_of};
+ghost use Rattle.rules.specs.Records.{Recordable, commands_in, words_for};
+ghost use Rattle.causes.specs.Causes.{command_named, behind, kept_by, leads_to, kept_after, position_after, reach_with, reach_at, of_command, detail_at, cause_of};
 
 use clauses::Detail;
 use onward::dword_of;
 use printout::command;
 use rows::{group_size, length_of, row_of};
 use rules::names::{END_ROW, START_ROW};
-use rules::{Access, Answer};
+use rules::{Access, Answer, Command, Reason};
 use uses::access_of;
 use words::dwords::{address_at, address_of, dword};
 
-// The position behind the command that a record names, by its two words.
-fn behind(first: u32, second: u32) -> usize
-    ensures { result ≡ behind (command_of first second) }
+// The command that a record names, by the record's number.
+#[tactic(auto, using(crate::proofs::Leading::record_small), unfolding(rules::specs::Records::words_for))]
+fn named(records: &[u32], i: usize) -> Command
+    requires { words_for (i + 1) ≤ length records.now }
+    ensures is { result ≡ command_named records.now i }
+    ensures small { Recordable result }
 {
-    let c = command(first, second);
+    command(records[2 * i], records[2 * i + 1])
+}
+
+// The position behind a command.
+fn behind(c: Command) -> usize
+    requires { Recordable c }
+    ensures { result ≡ behind c }
+{
     c.index + c.length
 }
 
-// The kept position after the command that a record names.
-fn kept_by(kept: usize, first: u32, second: u32) -> usize
-    ensures { result ≡ kept_by kept (command_of first second) }
+// The kept position after a command.
+#[tactic(auto, unfolding(crate::specs::Causes::kept_by))]
+fn kept_by(kept: usize, c: Command) -> usize
+    requires { Recordable c }
+    ensures { result ≡ kept_by kept c }
 {
-    if command(first, second).level == 0 {
-        behind(first, second)
-    } else {
-        kept
-    }
+    if c.level == 0 { behind(c) } else { kept }
 }
 
 // The kept position after the commands of the first records.
@@ -40,28 +48,27 @@ fn kept_after(records: &[u32], count: usize) -> usize
     ensures { result ≡ kept_after 0 (commands_in (take (words_for count) records.now)) }
 {
     let mut kept = 0;
-    let mut i = 0;
-    while i < count {
-        kept = kept_by(kept, records[2 * i], records[2 * i + 1]);
-        i += 1;
+    for i in 0..count {
+        kept = kept_by(kept, named(records, i));
     }
     kept
 }
 
-// Where the command that a record names leads.
-fn leads_to(batch: &[u32], batch_at: u64, kept: usize, first: u32, second: u32) -> usize
-    ensures { result ≡ leads_to batch.now batch_at kept (command_of first second) }
+// Where a command leads. (d) The batch and its address go through two functions only: a struct for them would be longer.
+#[tactic(auto, using(crate::proofs::Leading::address_behind), unfolding(crate::specs::Causes::leads_to))]
+fn leads_to(batch: &[u32], batch_at: u64, kept: usize, c: Command) -> usize
+    requires { Recordable c }
+    ensures { result ≡ leads_to batch.now batch_at kept c }
 {
-    let c = command(first, second);
-    if c.row == END_ROW {
-        return kept;
+    match c.row {
+        END_ROW => kept,
+        START_ROW => {
+            let low = dword(batch, c.index + 1);
+            let high = dword(batch, c.index + 2);
+            dword_of(batch_at, address_of(low, high))
+        }
+        _ => behind(c),
     }
-    if c.row != START_ROW {
-        return behind(first, second);
-    }
-    let low = dword(batch, c.index + 1);
-    let high = dword(batch, c.index + 2);
-    dword_of(batch_at, address_of(low, high))
 }
 
 // Where the walk stands after the commands of the first records: where the last of them leads.
@@ -73,17 +80,16 @@ fn position(batch: &[u32], batch_at: u64, records: &[u32], count: usize) -> usiz
         return 0;
     }
     let last = count - 1;
-    let kept = kept_after(records, last);
     leads_to(
         batch,
         batch_at,
-        kept,
-        records[2 * last],
-        records[2 * last + 1],
+        kept_after(records, last),
+        named(records, last),
     )
 }
 
-// Which dword of its group the dword k of a command is.
+// Which dword of its group the dword k of a command is. (d) `checked_sub` and `checked_rem` in place of the two tests would hide which case is which.
+#[tactic(auto, unfolding(rules::specs::Words::in_group))]
 fn spot(row: usize, k: usize) -> usize
     ensures { result ≡ spot row k }
 {
@@ -97,23 +103,16 @@ fn spot(row: usize, k: usize) -> usize
     1 + (k - 1) % size
 }
 
-fn reach_of(row: usize, address: u64, access: Access) -> Detail
-    ensures { result ≡ reach_of row address access }
-{
-    match access {
-        Access::Unused => Detail::NoMore,
-        Access::Reaches(bytes, within) => Detail::Reach(row, address, bytes, within),
-        Access::NoRange => Detail::NoMore,
-    }
-}
-
 // What a command reaches with its dword k.
+#[tactic(auto, unfolding(crate::specs::Causes::reach_with, rules::specs::Uses::access_at))]
 fn reach(row: usize, command: &[u32], k: usize) -> Detail
     requires { k < length command.now }
     ensures { result ≡ reach_with row command.now k }
 {
-    let access = access_of(row, command, k, spot(row, k));
-    reach_of(row, address_at(command, k), access)
+    match access_of(row, command, k, spot(row, k)) {
+        Access::Reaches(bytes, within) => Detail::Reach(row, address_at(command, k), bytes, within),
+        Access::Unused | Access::NoRange => Detail::NoMore,
+    }
 }
 
 // What the command at a position reaches with its dword k.
@@ -123,38 +122,27 @@ fn reach_at(batch: &[u32], at: usize, k: usize) -> Detail
     let header = dword(batch, at);
     let row = row_of(header);
     let long = length_of(row, header);
-    if batch.len() < at {
+    if batch.len().saturating_sub(at) < long || long <= k {
         return Detail::NoMore;
     }
-    if batch.len() - at < long {
-        return Detail::NoMore;
-    }
-    if long <= k {
-        return Detail::NoMore;
-    }
-    let end = at + long;
-    reach(row, &batch[at..end], k)
+    reach(row, &batch[at..at + long], k)
 }
 
-// The distance of two places, as the definitions subtract.
-fn distance(from: usize, to: usize) -> usize
-    ensures { result ≡ to - from }
-{
-    if from < to { to - from } else { 0 }
-}
-
-// Whether a reason is about a command, which has a name: 8 to 17.
+// Whether a reason, by its number, is about a command, which has a name: 8 to 17.
+#[tactic(auto, unfolding(crate::specs::Causes::of_command))]
 fn of_command(reason: u32) -> bool
     ensures { result ≡ of_command reason }
 {
-    (7 < reason) & (reason < 18)
+    (8..18).contains(&reason)
 }
 
+// What happened at a position. (a) An answer tells its reason by the number that the C interface has.
+#[tactic(auto, unfolding(crate::specs::Causes::detail_at, rules::specs::Refusals::number_of))]
 fn detail_at(batch: &[u32], at: usize, answer: Answer) -> Detail
     ensures { result ≡ detail_at batch.now at answer }
 {
-    if answer.reason == 13 {
-        return reach_at(batch, at, distance(at, answer.index as usize));
+    if answer.reason == Reason::RangeOutside.into() {
+        return reach_at(batch, at, (answer.index as usize).saturating_sub(at));
     }
     if of_command(answer.reason) {
         return Detail::InCommand(row_of(dword(batch, at)));
