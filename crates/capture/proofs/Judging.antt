@@ -9,11 +9,11 @@ use Rattle.rules.specs.declared.Answer.{Answer}
 use Rattle.rules.specs.declared.BaseChoice.{BaseChoice}
 use Rattle.rules.specs.declared.Contents.{Contents}
 use Rattle.rules.specs.declared.Reason.{Reason}
-use Rattle.rules.specs.Refusals.{told}
+use Rattle.rules.specs.Refusals.{batch_window, fault, answer_with, told}
 use Rattle.rules.specs.Windows.{Capture}
 use Rattle.rules.specs.Walk.{answer_of, commands_of, end_of}
 use Rattle.rules.specs.Records.{CheckedFrom, words_of, written_of}
-use Rattle.rules.specs.File.{trailer_of, file_capture, opened_verdict, opened_told, file_run, FileRead, Judged, JudgedFrom}
+use Rattle.rules.specs.File.{trailer_of, file_capture, opened_verdict, file_run, FileRead, Judged, JudgedFrom}
 use Rattle.walk.specs.Lent.{lent_capture}
 use Rattle.capture.proofs.Reading.{file_holds, parts}
 
@@ -30,7 +30,7 @@ module _ {file batch state new_batch new_state : List ℕ} where
   known f e = rw e at f
 
   pub not_read : {base : Option ℕ} {records : List ℕ} {reason : Reason} {answer : Answer}
-      → FileRead file batch state (Err reason) new_batch new_state → answer ≡ (opened_told (Err reason)).answer
+      → FileRead file batch state (Err reason) new_batch new_state → answer ≡ answer_with (Err (fault reason batch_window 0)) 0
       → Judged base file batch state records answer new_batch new_state records
   unfolding file_run opened_verdict told answer_of end_of commands_of written_of words_of
   not_read f e = record {

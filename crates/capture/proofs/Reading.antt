@@ -20,7 +20,6 @@ use Rattle.rules.specs.File.{dwords_from, batch_from, batch_dwords, state_dwords
 use Rattle.rules.proofs.Searching.{some_left, some_right, and_left, and_right}
 use Rattle.rules.proofs.Trying.{all_pass, refuse_passes}
 use Rattle.rules.proofs.Readings.{opened_told_lem}
-use Rattle.opening.specs.Offers.{alone}
 use Rattle.opening.proofs.Filling.{length_dwords}
 
 same_contents : {c d : Contents} → ◌≡◌ {A = Result Contents Reason} (Ok c) (Ok d) → c ≡ d
@@ -40,7 +39,7 @@ pub record FileHolds (file : List ℕ) (b s : ℕ) (contents : Contents) : Type 
   pub state_room : contents.state.count ≤ s
 
 -- a distance that is right is the file's length, and what the counts come to
-right_distance : (file : List ℕ) → distance_wrong (alone file) ≡ false → ((trailer_of file).distance ≡ length file)
+right_distance : (file : List ℕ) → distance_wrong (offer file 0 0) ≡ false → ((trailer_of file).distance ≡ length file)
     × ((trailer_of file).distance ≡ 40 + 4 * ((trailer_of file).batch_count + (trailer_of file).state_count))
 right_distance file e =
     let t = trailer_of file in
@@ -62,7 +61,7 @@ unfolding opened_of file_checks
 file_holds file b s e =
     let p = opened_passes (first_fault file_checks (offer file b s)) (trailer_of file) e in
     let q = all_pass (offer file b s) file_checks p.0 in
-    let d = right_distance file (refuse_passes (distance_wrong (alone file)) _ q.1.0) in
+    let d = right_distance file (refuse_passes (distance_wrong (offer file 0 0)) _ q.1.0) in
     let r = right_room file b s (refuse_passes (buffer_short (offer file b s)) _ q.1.1.1.0) in
     record {
       counts = p.1;

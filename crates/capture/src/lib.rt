@@ -1,11 +1,11 @@
 // The capture file: batch dwords, state dwords, then a trailer of 40 bytes. Read, and judged.
 #![tactic(auto)]
 
-ghost use Rattle.std.specs.Prelude.{◌≡◌, Err};
-ghost use Rattle.rules.specs.File.{FileRead, opened_told, JudgedFrom};
+ghost use Rattle.rules.specs.File.{FileRead, JudgedFrom};
 
 use opening::{Trailer, examine, fill};
-use rules::{Answer, BaseChoice, Contents, Reason};
+use records::answers::refusal;
+use rules::{Answer, BaseChoice, Contents, Fault, Reason};
 
 // Reads a capture file into two lent buffers. A file that is refused leaves both as they were.
 pub fn read(file: &[u8], batch: &mut [u32], state: &mut [u32]) -> Result<Contents, Reason>
@@ -19,19 +19,6 @@ pub fn read(file: &[u8], batch: &mut [u32], state: &mut [u32]) -> Result<Content
     Ok(contents)
 }
 
-// The answer for a file that is not read: its place is 0,0, and no command was checked.
-#[tactic(auto, unfolding(rules::specs::File::opened_verdict, rules::specs::Refusals::told, rules::specs::Refusals::answer_with))]
-fn refusal(reason: Reason) -> Answer
-    ensures { result ≡ (opened_told (Err reason)).answer }
-{
-    Answer {
-        reason: reason.into(),
-        window: 0,
-        index: 0,
-        count: 0,
-    }
-}
-
 // The whole answer for a file, from the base that is chosen: it is read into two lent buffers, and exactly the words that it fills are checked.
 pub fn judge(
     choice: BaseChoice,
@@ -43,7 +30,8 @@ pub fn judge(
     ensures { JudgedFrom choice file.now batch.old state.old records.old result batch.new state.new records.new }
 {
     match read(file, batch, state) {
-        Err(reason) => refusal(reason),
+        // its place is 0,0, and no command was checked
+        Err(reason) => refusal(Fault::in_batch(reason, 0), 0),
         Ok(contents) => {
             let first = contents.batch.count;
             let second = contents.state.count;
