@@ -77,6 +77,7 @@ pub struct FileContents {
 }
 
 // The answer of `capture::read` as numbers.
+#[tactic(auto, unfolding(crate::specs::Read::flat_of, rules::specs::File::opened_verdict, rules::specs::File::numbers_of, rules::specs::Refusals::told, rules::specs::Refusals::answer_with))]
 fn flat(opened: Result<Contents, Reason>) -> FileContents
     requires { Small opened }
     ensures { result ≡ flat_of opened }
