@@ -1,3 +1,1 @@
-pub mod Tests
-pub mod Ranges
 pub mod Loops

@@ -16,6 +16,7 @@ pub fn address_of(low: u32, high: u32) -> u64
 }
 
 // Whether an address is in canonical form, by its high dword: the bits above bit 47 repeat it.
+#[tactic(auto, using(rules::proofs::Canonical::canonical_ranges))]
 pub fn canonical(high: u32) -> bool
     ensures { result ≡ canonical high }
 {
@@ -23,6 +24,7 @@ pub fn canonical(high: u32) -> bool
 }
 
 // The address whose low dword is dword k.
+#[tactic(auto, unfolding(rules::specs::Uses::address_at))]
 pub fn address_at(command: &[u32], k: usize) -> u64
     requires { k < length command.now }
     ensures { result ≡ address_at command.now k }

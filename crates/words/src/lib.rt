@@ -10,6 +10,7 @@ use rules::Window;
 pub mod dwords;
 
 // Whether no bit of the word is set outside the mask.
+#[tactic(auto, unfolding(rules::specs::Words::allowed))]
 pub fn allowed(word: u32, mask: u32) -> bool
     ensures { result ≡ allowed word mask }
 {
@@ -17,6 +18,7 @@ pub fn allowed(word: u32, mask: u32) -> bool
 }
 
 // Whether all the bytes lie in the window. Distances are compared, since the end of either may lie past 2^64.
+#[tactic(auto, unfolding(rules::specs::Windows::holds, rules::specs::Windows::end))]
 pub fn holds(w: Window, address: u64, bytes: u64) -> bool
     ensures { result ≡ holds w address bytes }
 {
