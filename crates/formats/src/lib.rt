@@ -10,13 +10,7 @@ ghost use Rattle.rules.specs.Formats.{between, known_topology, known_register, n
 fn format_bits(table: &[u16; 512], code: usize) -> u16
     ensures { result ≡ get_or table.now code 0 }
 {
-    // As a slice: of a slice, unlike an array, the check knows that it is as long as its contents.
-    let entries: &[u16] = table;
-    if code < entries.len() {
-        entries[code]
-    } else {
-        0
-    }
+    table.get(code).copied().unwrap_or(0)
 }
 
 // Whether an element can have the format.
@@ -24,13 +18,6 @@ pub fn known_format(table: &[u16; 512], code: usize) -> bool
     ensures { result ≡ not (eqb (get_or table.now code 0) 0) }
 {
     format_bits(table, code) != 0
-}
-
-// Low to high, both included.
-fn between(low: u32, high: u32, n: u32) -> bool
-    ensures { result ≡ between low high n }
-{
-    low <= n && n <= high
 }
 
 // Whether a word with a bit for each code, the lowest code in bit 0, has that of the code; it has none for a code of 64 or more.
@@ -47,14 +34,14 @@ pub fn known_topology(code: u32) -> bool
     bit_of(0xFFFF_FFFF_005F_FFFE, code)
 }
 
+#[tactic(auto, unfolding(rules::specs::Formats::known_register, rules::specs::Words::some))]
 pub fn known_register(register: u32) -> bool
     ensures { result ≡ known_register register }
 {
     match register {
-        0x2400 | 0x2404 | 0x2408 | 0x240C | 0x2420 | 0x2430 | 0x2434 | 0x2438 | 0x243C | 0x2440 => {
-            true
-        }
-        _ => register % 4 == 0 && between(0x2600, 0x267C, register),
+        0x2400 | 0x2404 | 0x2408 | 0x240C | 0x2420 | 0x2430 | 0x2434 | 0x2438 | 0x243C | 0x2440 =>
+            true,
+        _ => register % 4 == 0 && (0x2600..=0x267C).contains(&register),
     }
 }
 
@@ -66,6 +53,7 @@ pub fn named_factor(code: u32) -> bool
 }
 
 // Whether document 000 names the blend function.
+#[tactic(auto, using(rules::proofs::Tables::function_named))]
 pub fn named_function(code: u32) -> bool
     ensures { result ≡ named_function code }
 {
