@@ -18,6 +18,7 @@ use rules::names::{
 };
 
 // The table of allowed bits. It is written out wherever it is asked for, so a caller asks once and lends it on.
+#[tactic(auto, unfolding(rules::specs::Commands::rows, rules::specs::Commands::the_row, rules::specs::Masks::masks_of, crate::specs::Masks::mask_rows, crate::specs::Masks::mask_table))]
 pub fn mask_table() -> &'static [[u32; 16]; ROWS]
     ensures { result.now ≡ mask_table }
 {
@@ -26,6 +27,7 @@ pub fn mask_table() -> &'static [[u32; 16]; ROWS]
 
 // The row of a header by its bits 31:16, of the rows of type 3, or ROWS where these have none with that key. The topology is asked for first, by a test of
 // its own: among the others it would be found by the compiler's table of jumps, which takes longer.
+#[tactic(auto, unfolding(rules::specs::Commands::rows, rules::specs::Commands::the_row, rules::specs::Commands::row_from))]
 fn row_of_type_3(key: u32) -> usize
     ensures { result ≡ 7 + row_from (key * 2 ^ 16) (drop 7 rows) }
 {
@@ -64,59 +66,41 @@ pub fn row_of(header: u32) -> usize
 }
 
 // How many dwords the command has, by its header. Rows 0, 1 and 8 have no field.
+#[tactic(auto, using(crate::proofs::RowLaws::length_past), unfolding(rules::specs::Commands::rows, rules::specs::Commands::the_row, rules::specs::Commands::length_of))]
 pub fn length_of(row: usize, header: u32) -> usize
     ensures { result ≡ length_of row header }
 {
-    if row <= END_ROW {
-        return 1;
-    }
-    if row == SELECT_ROW {
-        return 1;
-    }
-    if ROWS <= row {
+    if row <= END_ROW || row == SELECT_ROW || ROWS <= row {
         return 1;
     }
     (header % 256) as usize + 2
 }
 
 // How many dwords a group has; a row without groups is one group of all its dwords.
+#[tactic(auto, using(crate::proofs::RowLaws::size_past), unfolding(rules::specs::Commands::rows, rules::specs::Commands::the_row, rules::specs::Commands::group_size))]
 pub fn group_size(row: usize) -> usize
     ensures { result ≡ group_size row }
 {
     match row {
-        NOOP_ROW => 0,
-        END_ROW => 0,
-        START_ROW => 2,
-        SET_REGISTERS_ROW => 2,
-        STORE_ROW => 4,
-        STORE_REGISTER_ROW => 3,
-        LOAD_REGISTER_ROW => 3,
+        START_ROW | SET_REGISTERS_ROW | VERTEX_ELEMENTS_ROW => 2,
+        STORE_ROW | VERTEX_BUFFERS_ROW | INDEX_BUFFER_ROW => 4,
+        STORE_REGISTER_ROW | LOAD_REGISTER_ROW => 3,
         PIPE_ROW => 5,
-        SELECT_ROW => 0,
         BASE_ROW => 15,
-        VERTEX_BUFFERS_ROW => 4,
-        VERTEX_ELEMENTS_ROW => 2,
-        INDEX_BUFFER_ROW => 4,
-        TOPOLOGY_ROW => 1,
-        VIEWPORT_ROW => 1,
-        COLOUR_ROW => 1,
+        TOPOLOGY_ROW | VIEWPORT_ROW | COLOUR_ROW | BLEND_ROW => 1,
         PRIMITIVE_ROW => 6,
-        BLEND_ROW => 1,
         _ => 0,
     }
 }
 
 // Whether a field tells a whole number of groups, from one to the most that there may be.
+#[tactic(auto, unfolding(crate::specs::Groups::groups_right))]
 fn groups_right(field: u32, size: u32, most: u32) -> bool
     requires { (field < 256) × (0 < size) }
     ensures { result ≡ groups_right field size most }
 {
     let dwords = field + 1;
-    if dwords % size != 0 {
-        return false;
-    }
-    let n = dwords / size;
-    1 <= n && n <= most
+    dwords % size == 0 && (1..=most).contains(&(dwords / size))
 }
 
 // The field of a store: 3 where bit 21 asks for eight bytes, and else 2.
@@ -127,29 +111,23 @@ fn store_field(header: u32) -> u32
 }
 
 // Whether the length field is one that the row has.
+#[tactic(auto, using(crate::proofs::RowLaws::right_past), unfolding(rules::specs::Commands::rows, rules::specs::Commands::the_row, rules::specs::Commands::group_size, rules::specs::Commands::length_right, crate::specs::Groups::groups_right))]
 pub fn length_right(row: usize, header: u32) -> bool
     ensures { result ≡ length_right row header }
 {
     let field = header % 256;
     match row {
-        NOOP_ROW => true,
-        END_ROW => true,
         START_ROW => field == 1,
         SET_REGISTERS_ROW => groups_right(field, 2, 64),
         STORE_ROW => field == store_field(header),
-        STORE_REGISTER_ROW => field == 2,
-        LOAD_REGISTER_ROW => field == 2,
+        STORE_REGISTER_ROW | LOAD_REGISTER_ROW => field == 2,
         PIPE_ROW => field == 4,
-        SELECT_ROW => true,
         BASE_ROW => field == 14,
         VERTEX_BUFFERS_ROW => groups_right(field, 4, 33),
         VERTEX_ELEMENTS_ROW => groups_right(field, 2, 34),
         INDEX_BUFFER_ROW => field == 3,
-        TOPOLOGY_ROW => field == 0,
-        VIEWPORT_ROW => field == 0,
-        COLOUR_ROW => field == 0,
+        TOPOLOGY_ROW | VIEWPORT_ROW | COLOUR_ROW | BLEND_ROW => field == 0,
         PRIMITIVE_ROW => field == 5,
-        BLEND_ROW => field == 0,
         _ => true,
     }
 }
