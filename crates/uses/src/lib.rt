@@ -7,9 +7,8 @@ ghost use Rattle.rules.specs.Uses.{start_use, store_use, store_register_use, loa
 ghost use Rattle.rules.specs.Uses.{is_used, used_high_of};
 
 use rules::names::{
-    BASE_ROW, BLEND_ROW, COLOUR_ROW, END_ROW, INDEX_BUFFER_ROW, LOAD_REGISTER_ROW, NOOP_ROW,
-    PIPE_ROW, PRIMITIVE_ROW, SELECT_ROW, SET_REGISTERS_ROW, START_ROW, STORE_REGISTER_ROW,
-    STORE_ROW, TOPOLOGY_ROW, VERTEX_BUFFERS_ROW, VERTEX_ELEMENTS_ROW, VIEWPORT_ROW,
+    BASE_ROW, INDEX_BUFFER_ROW, LOAD_REGISTER_ROW, PIPE_ROW, START_ROW, STORE_REGISTER_ROW,
+    STORE_ROW, VERTEX_BUFFERS_ROW,
 };
 use rules::{Access, Within};
 use words::dwords::dword;
@@ -70,13 +69,11 @@ fn pipe_use(command: &[u32], j: usize) -> Access
 }
 
 // The low dwords of the five bases.
+#[tactic(auto, unfolding(rules::specs::Words::some))]
 fn is_base(j: usize) -> bool
     ensures { result ≡ some (eqb j) (1 ∷ 4 ∷ 6 ∷ 8 ∷ 10 ∷ []) }
 {
-    match j {
-        1 | 4 | 6 | 8 | 10 => true,
-        _ => false,
-    }
+    matches!(j, 1 | 4 | 6 | 8 | 10)
 }
 
 // A base is used where bit 0 of its low dword is set.
@@ -108,7 +105,7 @@ fn sized_use(size: u32) -> Access
 fn before(k: usize) -> usize
     ensures { result ≡ k - 1 }
 {
-    if 0 < k { k - 1 } else { 0 }
+    k.saturating_sub(1)
 }
 
 // The range of a vertex buffer, by the first of its dwords and the last.
@@ -145,29 +142,20 @@ fn index_buffer_use(command: &[u32], k: usize, j: usize) -> Access
 }
 
 // The address that the command uses with its low dword at k, if it does.
+#[tactic(auto, using(crate::proofs::UseLaws::no_access), unfolding(rules::specs::Uses::uses_by_row, rules::specs::Uses::access_of))]
 pub fn access_of(row: usize, command: &[u32], k: usize, j: usize) -> Access
     requires { k < length command.now }
     ensures { result ≡ access_of row command.now k j (get_or command.now k 0) }
 {
     match row {
-        NOOP_ROW => Access::Unused,
-        END_ROW => Access::Unused,
         START_ROW => start_use(j),
-        SET_REGISTERS_ROW => Access::Unused,
         STORE_ROW => store_use(command, j),
         STORE_REGISTER_ROW => store_register_use(j),
         LOAD_REGISTER_ROW => load_register_use(j),
         PIPE_ROW => pipe_use(command, j),
-        SELECT_ROW => Access::Unused,
         BASE_ROW => base_use(j, command[k]),
         VERTEX_BUFFERS_ROW => vertex_buffer_use(command, k, j),
-        VERTEX_ELEMENTS_ROW => Access::Unused,
         INDEX_BUFFER_ROW => index_buffer_use(command, k, j),
-        TOPOLOGY_ROW => Access::Unused,
-        VIEWPORT_ROW => Access::Unused,
-        COLOUR_ROW => Access::Unused,
-        PRIMITIVE_ROW => Access::Unused,
-        BLEND_ROW => Access::Unused,
         _ => Access::Unused,
     }
 }
@@ -175,43 +163,31 @@ pub fn access_of(row: usize, command: &[u32], k: usize, j: usize) -> Access
 fn is_used(access: Access) -> bool
     ensures { result ≡ is_used access }
 {
-    match access {
-        Access::Unused => false,
-        Access::Reaches(_, _) => true,
-        Access::NoRange => true,
-    }
+    !matches!(access, Access::Unused)
 }
 
 // Whether the command uses an address with its low dword at k, the dword j of its group. It asks the rows' uses itself, so that `access_of` is asked
-// in one place only, into which it is compiled.
+// in one place only, into which it is compiled: as `is_used` of `access_of`, `bench/draft` has the table engine's mixed rows at 460,138 (91,780 so).
+#[tactic(auto, using(crate::proofs::UseLaws::no_access), unfolding(rules::specs::Uses::uses_by_row, rules::specs::Uses::access_of))]
 fn low_used(row: usize, command: &[u32], k: usize, j: usize) -> bool
     requires { k < length command.now }
     ensures { result ≡ is_used (access_of row command.now k j (get_or command.now k 0)) }
 {
     match row {
-        NOOP_ROW => false,
-        END_ROW => false,
         START_ROW => is_used(start_use(j)),
-        SET_REGISTERS_ROW => false,
         STORE_ROW => is_used(store_use(command, j)),
         STORE_REGISTER_ROW => is_used(store_register_use(j)),
         LOAD_REGISTER_ROW => is_used(load_register_use(j)),
         PIPE_ROW => is_used(pipe_use(command, j)),
-        SELECT_ROW => false,
         BASE_ROW => is_used(base_use(j, command[k])),
         VERTEX_BUFFERS_ROW => is_used(vertex_buffer_use(command, k, j)),
-        VERTEX_ELEMENTS_ROW => false,
         INDEX_BUFFER_ROW => is_used(index_buffer_use(command, k, j)),
-        TOPOLOGY_ROW => false,
-        VIEWPORT_ROW => false,
-        COLOUR_ROW => false,
-        PRIMITIVE_ROW => false,
-        BLEND_ROW => false,
         _ => false,
     }
 }
 
 // Whether the dword k, the dword j of its group, is the high dword of an address that the command uses.
+#[tactic(auto, unfolding(rules::specs::Uses::used_high_of))]
 pub fn high_used(row: usize, command: &[u32], k: usize, j: usize) -> bool
     requires { k < length command.now }
     ensures { result ≡ used_high_of row command.now k j }
