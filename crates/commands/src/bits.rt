@@ -14,8 +14,5 @@ pub fn bit_wrong(row: usize, command: &[u32], k: usize, j: usize, masks: &[u32; 
     requires { (k < length command.now) × (j < 16) × (row < row_count) × (masks.now ≡ get_or mask_table row []) }
     ensures { result ≡ not (allowed (get_or command.now k 0) (allowed_of row command.now k j)) }
 {
-    if allowed(command[k], masks[j]) {
-        return false;
-    }
-    !high_used(row, command, k, j)
+    !allowed(command[k], masks[j]) && !high_used(row, command, k, j)
 }
