@@ -1,10 +1,9 @@
 -- Dwords that a window holds, and what is known where one of two windows holds them.
 -- Assumes nothing.
 use Rattle.std.specs.Prelude.{Option, Some, None}
-use Prim.Native.Nat.{ℕ, ◌+◌, ◌-◌, ◌*◌, ◌%◌, ◌^◌, ◌≤◌, ◌<◌}
+use Prim.Native.Nat.{ℕ, ◌+◌, ◌-◌, ◌*◌, ◌%◌, ◌≤◌}
 use mathlib.Core.Path.{◌≡◌, sym}
 use mathlib.Core.Bool.{Bool, true, false, cond}
-use mathlib.Core.Logic.{⊎_elim}
 use native.Mathlib.Omega.{arith}
 use borrow.Author.Tests.{eqb-true}
 use Rattle.rules.specs.declared.Window.{Window}
@@ -12,25 +11,15 @@ use Rattle.rules.specs.declared.Held.{Held}
 use Rattle.rules.specs.declared.Held.TheVariants.{InBatch, InState}
 use Rattle.rules.specs.Windows.{lent, holds, Inside, holds_dwords, dword_of, held_at}
 use Rattle.windows.specs.Parts.{WithinItsWindow}
-use Rattle.rules.proofs.Searching.{either, and_left, and_right}
+use Rattle.rules.proofs.Searching.{and_left, and_right}
 use Rattle.rules.proofs.Ranges.{inside}
 
 module _ (w : Window) (address n : ℕ) where
-  -- a window of 64-bit length holds no more dwords than 64 bits can count the bytes of
-  pub too_many : w.bytes < 2 ^ 64 → 0x3FFFFFFFFFFFFFFF < n → false ≡ holds_dwords w address n
-  unfolding holds_dwords
-  too_many short many =
-      ⊎_elim (λ e. let i = inside w address (4 * n) e in absurd (omega arith)) (λ (e : holds w address (4 * n) ≡ false). simp e)
-      (either (holds w address (4 * n)))
-
-  pub bytes_inside : holds_dwords w address n ≡ true → Inside w address (4 * n)
+  bytes_inside : holds_dwords w address n ≡ true → Inside w address (4 * n)
   unfolding holds_dwords
   bytes_inside e = inside w address (4 * n) (and_left (holds w address (4 * n)) _ e)
 
-  pub starts_above : holds_dwords w address n ≡ true → w.at ≤ address
-  starts_above e = (bytes_inside e).low
-
-  pub whole_dword : holds_dwords w address n ≡ true → (address - w.at) % 4 ≡ 0
+  whole_dword : holds_dwords w address n ≡ true → (address - w.at) % 4 ≡ 0
   unfolding holds_dwords
   whole_dword e = eqb-true _ _ (and_right (holds w address (4 * n)) _ e)
 

@@ -1,4 +1,3 @@
-pub mod Ends
 pub mod Holding
 pub mod Sounding
 pub mod Unique

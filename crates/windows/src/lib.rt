@@ -25,6 +25,7 @@ const ADDRESS_LIMIT: u64 = 0x1_0000_0000_0000;
 // The most dwords whose bytes 64 bits can count.
 const COUNTED_DWORDS: u64 = 0x3FFF_FFFF_FFFF_FFFF;
 
+#[tactic(auto, unfolding(rules::specs::Windows::counts_wrong))]
 fn counts_wrong(batch: usize, state: usize) -> bool
     ensures { result ≡ counts_wrong window_limit batch state }
 {
@@ -60,18 +61,21 @@ fn share_byte(v: Window, w: Window) -> bool
     ((v.bytes > 0) & (w.bytes > 0)) & (below_end(v.at, w) & below_end(w.at, v))
 }
 
+#[tactic(auto, unfolding(rules::specs::Words::some))]
 fn some_unaligned(w: Windows) -> bool
     ensures { result ≡ some unaligned (listed w) }
 {
     unaligned(w.batch) | (unaligned(w.state) | unaligned(w.scratch))
 }
 
+#[tactic(auto, unfolding(rules::specs::Words::some))]
 fn some_too_high(w: Windows) -> bool
     ensures { result ≡ some ends_too_high (listed w) }
 {
     ends_too_high(w.batch) | (ends_too_high(w.state) | ends_too_high(w.scratch))
 }
 
+#[tactic(auto, unfolding(rules::specs::Words::some, rules::specs::Words::some_two))]
 fn some_share(w: Windows) -> bool
     ensures { result ≡ some_two share_byte (listed w) }
 {
@@ -100,19 +104,17 @@ pub fn sound(batch_count: usize, state_count: usize, w: Windows) -> Result<(), F
 
 // Whether all the bytes lie in some window. Left at the first that holds them, since each test has several ways out. Scratch is asked first: it
 // is where most ranges lie.
+#[tactic(auto, unfolding(rules::specs::Words::some, rules::specs::Windows::fits, rules::specs::Windows::windows_within))]
 pub fn anywhere(w: Windows, address: u64, bytes: u64) -> bool
     ensures { result ≡ fits w AnyWindow address bytes }
 {
-    if words::holds(w.scratch, address, bytes) {
-        return true;
-    }
-    if words::holds(w.batch, address, bytes) {
-        return true;
-    }
-    words::holds(w.state, address, bytes)
+    words::holds(w.scratch, address, bytes)
+        || words::holds(w.batch, address, bytes)
+        || words::holds(w.state, address, bytes)
 }
 
 // Whether all the bytes lie in one of the windows that the rule names.
+#[tactic(auto, unfolding(rules::specs::Words::some, rules::specs::Windows::fits, rules::specs::Windows::windows_within))]
 fn fits(w: Windows, allowed: Within, address: u64, bytes: u64) -> bool
     ensures { result ≡ fits w allowed address bytes }
 {
@@ -128,13 +130,13 @@ pub fn access_wrong(w: Windows, address: u64, access: Access) -> bool
     ensures { result ≡ access_wrong w address access }
 {
     match access {
-        Access::Unused => false,
         Access::Reaches(bytes, allowed) => !fits(w, allowed, address, bytes),
-        Access::NoRange => false,
+        Access::Unused | Access::NoRange => false,
     }
 }
 
 // Whether the window holds n dwords at the address as whole dwords of its own.
+#[tactic(auto, unfolding(rules::specs::Windows::holds_dwords, rules::specs::Windows::holds))]
 fn holds_dwords(w: Window, address: u64, n: usize) -> bool
     ensures { result ≡ holds_dwords w address n }
 {
@@ -146,6 +148,7 @@ fn holds_dwords(w: Window, address: u64, n: usize) -> bool
 }
 
 // Which of the two lent windows holds n dwords at the address, and at which of its dwords they start. The batch is asked first.
+#[tactic(auto, unfolding(rules::specs::Windows::held_at, rules::specs::Windows::holds_dwords, rules::specs::Windows::holds))]
 fn held(batch: Window, state: Window, address: u64, n: usize) -> Option<Held>
     ensures { result ≡ held_at batch state address n }
 {
