@@ -1,41 +1,18 @@
 -- 17: which dword of a structure breaks a value rule.
 -- Assumes nothing.
-use Rattle.std.specs.Prelude.{Some, None}
+use Rattle.std.specs.Prelude.{None}
 use Prim.Native.Nat.{ℕ, ◌≤◌, ◌<◌}
-use mathlib.Core.Path.{◌≡◌, refl, sym, ◌∙◌, subst⁻¹}
-use mathlib.Core.Bool.{Bool, true, false, not}
+use mathlib.Core.Path.{◌≡◌, refl, sym, ◌∙◌}
+use mathlib.Core.Bool.{Bool, false}
 use mathlib.Core.List.{List, [], ◌∷◌}
 use native.Mathlib.Omega.{arith}
 use borrow.Author.Tests.{le-leb}
-use lib.Dec.{T}
 use lib.ListN.{get_or}
 use Rattle.rules.specs.declared.Kind.{Kind}
 use Rattle.rules.specs.declared.Kind.TheVariants.{Viewport, ColourCalc}
 use Rattle.rules.specs.Words.{first_from, first_of}
-use Rattle.rules.specs.Structures.{layout_of, is_nan, at_most, depth_wrong, colour_wrong, structure_value_wrong}
+use Rattle.rules.specs.Structures.{layout_of, is_nan, depth_wrong, colour_wrong, structure_value_wrong}
 use Rattle.rules.proofs.Searching.{none_found, some_left}
-
--- what `f32::from_bits` asks
-pub no_nan : (w : ℕ) → is_nan w ≡ false → T (not (is_nan w))
-no_nan w e = subst⁻¹ (λ (t : Bool). T (not t)) e tt
-
--- the ways through two depths
-module _ (low high : ℕ) where
-  pub low_nan : is_nan low ≡ true → Some 0 ≡ first_of (depth_wrong (low ∷ high ∷ [])) 2
-  unfolding first_from depth_wrong
-  low_nan e = simp e
-
-  pub high_nan : is_nan low ≡ false → is_nan high ≡ true → Some 1 ≡ first_of (depth_wrong (low ∷ high ∷ [])) 2
-  unfolding first_from depth_wrong
-  high_nan e f = simp (e, f)
-
-  pub ordered : is_nan low ≡ false → is_nan high ≡ false → at_most low high ≡ true → None ≡ first_of (depth_wrong (low ∷ high ∷ [])) 2
-  unfolding first_from depth_wrong
-  ordered e f o = simp (e, f, o)
-
-  pub misordered : is_nan low ≡ false → is_nan high ≡ false → at_most low high ≡ false → Some 1 ≡ first_of (depth_wrong (low ∷ high ∷ [])) 2
-  unfolding first_from depth_wrong
-  misordered e f o = simp (e, f, o)
 
 module _ (d : List ℕ) where
   -- the first two dwords of a viewport are its depths

@@ -10,51 +10,35 @@ use words::dwords::dword;
 fn factors_named(w: u32) -> bool
     ensures { result ≡ factors_named w }
 {
-    if !named_factor(w / 0x400_0000 % 32) {
-        return false;
-    }
-    if !named_factor(w / 0x20_0000 % 32) {
-        return false;
-    }
-    if !named_factor(w / 0x2000 % 32) {
-        return false;
-    }
-    named_factor(w / 0x100 % 32)
+    named_factor(w / 0x400_0000 % 32)
+        && named_factor(w / 0x20_0000 % 32)
+        && named_factor(w / 0x2000 % 32)
+        && named_factor(w / 0x100 % 32)
 }
 
 // The function of the colour and that of alpha.
 fn functions_named(w: u32) -> bool
     ensures { result ≡ functions_named w }
 {
-    if !named_function(w / 0x4_0000 % 8) {
-        return false;
-    }
-    named_function(w / 0x20 % 8)
+    named_function(w / 0x4_0000 % 8) && named_function(w / 0x20 % 8)
 }
 
 // Whether an entry, by its first dword, blends with a code that has no name.
+#[tactic(auto, unfolding(rules::specs::Structures::entry_wrong))]
 fn entry_wrong(w: u32) -> bool
     ensures { result ≡ entry_wrong w }
 {
-    if w / 0x8000_0000 % 2 != 1 {
-        return false;
-    }
-    if !factors_named(w) {
-        return true;
-    }
-    !functions_named(w)
+    w / 0x8000_0000 % 2 == 1 && !(factors_named(w) && functions_named(w))
 }
 
 // The first dword of the first entry that breaks the rule. An entry has two dwords, and the rule looks at the first.
 pub fn first_entry(d: &[u32]) -> Option<usize>
     ensures { result ≡ first_of (blend_wrong d.now) 17 }
 {
-    let mut k = 1;
-    while k < 17 {
+    for k in (1..17).step_by(2) {
         if entry_wrong(dword(d, k)) {
             return Some(k);
         }
-        k += 2;
     }
     None
 }

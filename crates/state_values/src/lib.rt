@@ -64,6 +64,7 @@ fn at_most(minimum: u32, maximum: u32) -> bool
 }
 
 // The first of two depths that is a NaN; else the maximum, if it is below the minimum.
+#[tactic(auto, unfolding(rules::specs::Words::first_from, rules::specs::Structures::depth_wrong))]
 fn first_depth(minimum: u32, maximum: u32) -> Option<usize>
     ensures { result ≡ first_of (depth_wrong (minimum ∷ maximum ∷ [])) 2 }
 {
@@ -84,17 +85,16 @@ fn first_depth(minimum: u32, maximum: u32) -> Option<usize>
 fn first_colour(d: &[u32]) -> Option<usize>
     ensures { result ≡ first_of (colour_wrong d.now) 6 }
 {
-    let mut k = 2;
-    while k < 6 {
+    for k in 2..6 {
         if is_nan(dword(d, k)) {
             return Some(k);
         }
-        k += 1;
     }
     None
 }
 
 // The first dword that breaks a value rule.
+#[tactic(auto, unfolding(rules::specs::Structures::structure_value_wrong, rules::specs::Structures::layout_of))]
 pub fn first_value(kind: Kind, d: &[u32]) -> Option<usize>
     ensures { result ≡ first_of (structure_value_wrong kind d.now) (layout_of kind).dwords }
 {
