@@ -39,6 +39,7 @@ fn dwords_of(kind: Kind) -> usize
 }
 
 // Which of a structure's masks is that of its dword k, by how many dwords its group has.
+#[tactic(auto, unfolding(rules::specs::Words::in_group))]
 fn in_group(size: usize, k: usize) -> usize
     requires { (0 < size) × (size ≤ 2) }
     ensures { (result ≡ in_group size k) × (result < 3) }
@@ -54,12 +55,10 @@ fn first_outside(masks: &[u32; GROUP + 1], size: usize, d: &[u32], n: usize) -> 
     requires { (0 < size) × (size ≤ 2) }
     ensures { result ≡ first_of (outside masks.now size d.now) n }
 {
-    let mut k = 0;
-    while k < n {
+    for k in 0..n {
         if !words::allowed(dword(d, k), masks[in_group(size, k)]) {
             return Some(k);
         }
-        k += 1;
     }
     None
 }
@@ -93,8 +92,7 @@ fn start_of(held: Held) -> usize
     ensures { result ≡ held_from (Some held) }
 {
     match held {
-        Held::InBatch(from) => from,
-        Held::InState(from) => from,
+        Held::InBatch(from) | Held::InState(from) => from,
     }
 }
 
