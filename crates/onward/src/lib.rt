@@ -19,6 +19,7 @@ pub fn level_number(level: Level) -> usize
     }
 }
 
+#[tactic(auto, unfolding(rules::specs::Step::after_end))]
 fn after_end(level: Level, base: Option<u64>) -> Option<Cursor>
     ensures { result ≡ after_end level base }
 {
@@ -43,6 +44,7 @@ pub fn dword_of(at: u64, address: u64) -> usize
 }
 
 // The position that a batch start names.
+#[tactic(auto, unfolding(rules::specs::Uses::address_at))]
 fn target(at: u64, command: &[u32]) -> usize
     ensures { result ≡ (address_at command.now 1 - at) / 4 }
 {
@@ -63,6 +65,7 @@ fn level_after_start(header: u32, next: usize, level: Level) -> Level
 }
 
 // The dynamic base after a command: only row 9 with bit 0 of its dword 6 sets it.
+#[tactic(auto, unfolding(rules::specs::Step::base_after))]
 fn base_after(row: usize, command: &[u32], base: Option<u64>) -> Option<u64>
     ensures { result ≡ base_after row command.now base }
 {
@@ -80,6 +83,7 @@ fn base_after(row: usize, command: &[u32], base: Option<u64>) -> Option<u64>
 
 // Where the command leads from the cursor; `next` is the position after it. The rows above the start's that change nothing are asked first: that leaves
 // a no-op a way of its own through the walk's loop, on which the compiler knows its row and its length.
+#[tactic(auto, unfolding(crate::specs::Onward::move_from, rules::specs::Step::base_after))]
 pub fn move_of(batch_at: u64, s: Cursor, row: usize, command: &[u32], next: usize) -> Option<Cursor>
     ensures { result ≡ move_from batch_at s row command.now next }
 {
