@@ -34,6 +34,7 @@ fn after_end(level: Level, base: Option<u64>) -> Option<Cursor>
 }
 
 // Which dword of a window an address names; an address below the window counts as its start, as the definitions subtract.
+// With `saturating_sub` `bench/draft` has vertex elements at 67,721 (59,813 so), more than 1.1 of the C checker's.
 pub fn dword_of(at: u64, address: u64) -> usize
     ensures { result ≡ (address - at) / 4 }
 {
