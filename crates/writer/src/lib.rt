@@ -21,6 +21,7 @@ use words::allowed;
 const LONGEST: usize = 133;
 
 // Whether the row has a command with n dwords after its header: as many as a length field tells, of row 4 with bit 21, or none where there is no field.
+#[tactic(auto, using(rules::proofs::Writing::many_counted))]
 fn count_right(row: usize, free: u32, n: usize) -> bool
     requires { row < row_count }
     ensures { result ≡ count_right (the_row row).total (group_size row) free n }
@@ -51,9 +52,11 @@ fn put(header: u32, dwords: &[u32], into: &mut [u32], first: usize)
     requires { first + (1 + length dwords.now) ≤ length into.old }
     ensures { into.new ≡ written_by (Ok tt) (header ∷ dwords.now) first into.old }
 {
-    let behind = first + 1;
     into[first] = header;
-    into[behind..behind + dwords.len()].copy_from_slice(dwords);
+    // (a) The archive for C asks nothing of its caller but `memcpy` and `memset`: `copy_from_slice` would ask for `memmove` too.
+    for i in 0..dwords.len() {
+        into[first + 1 + i] = dwords[i];
+    }
 }
 
 // Whether the dwords behind the header have no bit that 10 refuses. The row's masks are lent.

@@ -5,7 +5,7 @@ use native.Mathlib.Nat.{mod-lt}
 use lib.Dec.{eqb, lit<}
 use Rattle.rules.specs.Commands.{the_row, group_size, length_of}
 use Rattle.rules.specs.Writer.{count_right}
-use Rattle.rules.proofs.Writing.{none_counted, bare_counted, many_counted, field_counted}
+use Rattle.rules.proofs.Writing.{none_counted, bare_counted, field_counted}
 use Rattle.writer.proofs.WriterLaws.{field_told, switch_told}
 use Rattle.writer.proofs.count_right.Goals as goal
 
@@ -22,9 +22,6 @@ unfolding length_of
 returns-then-bare c =
     let a = c.args in
     sym (bare_counted (the_row a.row).total (group_size a.row) a.free a.n (sym c.length_of-bare.ensures ∙ c.if-bare.true) (search rules))
-
-pub returns-then-n-gt256 : goal.returns-then-n-gt256
-returns-then-n-gt256 c = let a = c.args in sym (many_counted a.row a.free a.n c.requires (search rules))
 
 pub returns : goal.returns
 unfolding length_of
