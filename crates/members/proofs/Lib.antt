@@ -1,2 +1,3 @@
 pub mod Quoting
+pub mod Escaping
 pub mod Bounds

@@ -44,11 +44,13 @@ fn put_escaped(line: &mut OpenLine, byte: u8)
     line.put_byte(byte);
 }
 
+#[tactic(auto, using(crate::proofs::Escaping::behind_a_backslash, crate::proofs::Escaping::as_it_is))]
 fn put_quoted_byte(line: &mut OpenLine, byte: u8)
     requires { Room 6 line.old }
     ensures { Puts 6 (quoted_byte byte) line.old line.new }
 {
-    if byte < 0x20 {
+    let control = byte < 0x20;
+    if control {
         line.put_text(b"\\u00");
         line.put_hex(2, byte as usize);
         return;
