@@ -11,7 +11,7 @@ use clauses::{Detail, Unread};
 use json_lines::Totals;
 use lines::{LINE_BYTES, NAME_BYTES, OpenLine};
 use members::Outcome;
-use outside::output::{Outputs, Told};
+use outside::output::{Outputs, Told, tell_failure};
 use outside::{arguments, descriptors, files, input};
 use reports::judge::Judge;
 use reports::{MOST_BYTES, Status, base_choice, has_letter};
@@ -479,7 +479,8 @@ impl<O: Write, E: Write> Report<O, E> {
 
     // Says that no more names can be read.
     fn names_lost(&mut self, failure: io::Error) -> Told {
-        self.to.complain(b"the names could not be read", failure);
+        let what = b"lungevati: the names could not be read";
+        let _ = tell_failure(&mut self.to.messages, what, failure);
         Told
     }
 }
@@ -527,7 +528,7 @@ fn fetch<'a, N: Read + Seek>(
     at: u64,
     entry: &'a mut [u8; ENTRY_BYTES],
 ) -> io::Result<(u8, &'a [u8])>
-    ensures { IfOk result (λ entry. length entry.1.now ≤ 4098) }
+    ensures { IfOk result (λ entry. length entry.1.now ≤ 4097) }
 {
     list.seek(SeekFrom::Start(at))?;
     let n = list.read(entry)?;
@@ -595,5 +596,5 @@ fn main(rt: HostRuntime) {
         judge: Judge::new(wish.choice),
     };
     let status = audit(&rt, &mut captures, &mut report).unwrap_or(Status::Unread);
-    let _ = descriptors::report(&rt, &reports::status_line(status));
+    let _ = descriptors::report(&rt, &status.line());
 }

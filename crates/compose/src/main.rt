@@ -106,7 +106,9 @@ fn say<O: Write, E: Write>(
     let messages = &mut to.messages;
     let line = reader.line;
     match wrong {
-        Wrong::Unread(failure) => to.complain(name, failure),
+        Wrong::Unread(failure) => {
+            let _ = to.complain(name, failure);
+        }
         Wrong::Refused(reason) => {
             say_refused(messages, name, line, reason);
             return Status::Refused;
@@ -166,7 +168,7 @@ fn compose_argument<R: Env + Files, O: Write, E: Write>(
     match opened {
         Ok(mut file) => compose_input(to, &mut file, shown),
         Err(failure) => {
-            to.complain(shown, failure);
+            let _ = to.complain(shown, failure);
             Status::Unread
         }
     }
@@ -179,5 +181,5 @@ fn main(rt: HostRuntime) {
     } else {
         compose_argument(&rt, &mut to)
     };
-    let _ = descriptors::report(&rt, &reports::status_line(status));
+    let _ = descriptors::report(&rt, &status.line());
 }

@@ -2,14 +2,14 @@
 // with no base; the other arguments are names.
 #![tactic(auto)]
 
-ghost use Rattle.std.specs.Prelude.{◌≤◌, length};
+ghost use Rattle.std.specs.Prelude.{◌≤◌, length, IfOk};
 ghost use Rattle.lines.specs.Lines.{name_bytes};
 
 use lines::{NAME_BYTES, OpenLine};
 use outside::output::{Outputs, Told, write_all};
 use outside::{arguments, descriptors, files, input};
 use reports::judge::Judge;
-use reports::{MOST_BYTES, Status, base_choice, worse};
+use reports::{MOST_BYTES, Status, base_choice};
 use rules::{Answer, BaseChoice};
 use std::io;
 use std::io::{IsTerminal, Read, Write};
@@ -103,7 +103,9 @@ fn told(records: &[u32], answer: Answer) -> &[u32] {
 fn read_input<'a, I: Read + IsTerminal>(
     from: &mut I,
     bytes: &'a mut [u8],
-) -> Result<&'a [u8], Unread> {
+) -> Result<&'a [u8], Unread>
+    ensures { IfOk result (λ read. length read.now ≤ length bytes.old) }
+{
     let filled = input::fill(from, bytes);
     if let Some(why) = filled.failure {
         return Err(Unread::Failed(why));
@@ -139,7 +141,7 @@ impl<O: Write, E: Write> Run<O, E> {
                 })
             }
             Err(Unread::Failed(why)) => {
-                self.printer.to.complain(name, why);
+                let _ = self.printer.to.complain(name, why);
                 Ok(Status::Unread)
             }
             Err(Unread::Changed) => {
@@ -167,7 +169,7 @@ impl<O: Write, E: Write> Run<O, E> {
         match opened {
             Ok(mut file) => self.answer_input(&mut file, shown),
             Err(why) => {
-                self.printer.to.complain(shown, why);
+                let _ = self.printer.to.complain(shown, why);
                 Ok(Status::Unread)
             }
         }
@@ -181,7 +183,7 @@ impl<O: Write, E: Write> Run<O, E> {
         let mut text = [0u8; NAME_BYTES];
         let mut worst = Status::Accepted;
         for i in 2..count {
-            worst = worse(worst, self.answer_argument(system, i, &mut text)?);
+            worst = worst.worse(self.answer_argument(system, i, &mut text)?);
         }
         Ok(worst)
     }
@@ -205,5 +207,5 @@ fn main(rt: HostRuntime) {
         run.answer_arguments(&rt, count)
     };
     let status = answered.unwrap_or(Status::Unread);
-    let _ = descriptors::report(&rt, &reports::status_line(status));
+    let _ = descriptors::report(&rt, &status.line());
 }

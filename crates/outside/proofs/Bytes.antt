@@ -3,6 +3,7 @@ use Rattle.std.proofs.Common.{◌≡◌, ℕ, ◌+◌, ◌-◌, ◌≤◌, List,
 use Rattle.std.proofs.lemmas.List.{take-append-le, take-append-drop, take_rest}
 use Rattle.std.proofs.Math.Seq.{take-add, take-append_seam}
 use Rattle.std.specs.declared.option.Option.{Option}
+use Rattle.std.specs.Result.{result_and}
 use Rattle.std.specs.Io.{ReadsAtMost}
 use Rattle.std.specs.Io.KnownBytes.{Appends, Consumes, Keeps, ReadConsumes}
 
@@ -67,3 +68,10 @@ pub line_written : {T E : Type 0} (r : Result T E) (a b c d e : Option (List ℕ
     → OnOk r ((words : List ℕ) × Appends a e (w ++ x ++ words ++ z))
 line_written (Ok t) a b c d e w x y z p q s last = (y, appends_both a d e _ _ (appends_both a c d _ _ (appends_both a b c _ _ p q) s) last)
 line_written (Err f) a b c d e w x y z p q s last = tt
+
+-- a front that was written, and a line that was told behind it; the answer is that of both
+pub line_behind : {T U E : Type 0} (r : Result T E) (s : Result U E) (a b c : Option (List ℕ)) (front : List ℕ) (line : List ℕ → List ℕ) → OnOk r (Appends a b front)
+    → OnOk s ((words : List ℕ) × Appends b c (line words)) → OnOk (result_and r s) ((words : List ℕ) × Appends a c (front ++ line words))
+line_behind (Ok t) (Ok u) a b c front line p q = (q.0, appends_both a b c front (line q.0) p q.1)
+line_behind (Ok t) (Err e) a b c front line p q = tt
+line_behind (Err e) s a b c front line p q = tt

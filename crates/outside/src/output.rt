@@ -76,15 +76,20 @@ impl<O: Write, E: Write> Outputs<O, E> {
         ensures whole { OnOk result (Appends (O.contents self.old.printout) (O.contents self.new.printout) text.now) }
     {
         if let Err(why) = write_all(&mut self.printout, text) {
-            self.complain(b"the output could not be written", why);
+            let what = b"lungevati: the output could not be written";
+            let _ = tell_failure(&mut self.messages, what, why);
             return Err(Told);
         }
         Ok(())
     }
 
-    // Says what failed, as the name of a file that was not read, and why.
-    pub fn complain(&mut self, what: &[u8], why: io::Error) {
-        let _ = write_all(&mut self.messages, b"lungevati: ");
-        let _ = tell_failure(&mut self.messages, what, why);
+    // Says what failed, as the name of a file that was not read, and why. The name is told also where what stands before it could not be.
+    pub fn complain(&mut self, what: &[u8], why: io::Error) -> io::Result<()>
+        ensures same_printout { self.new.printout ≡ self.old.printout }
+        ensures told { OnOk result ((words : List ℕ) × Appends (E.contents self.old.messages) (E.contents self.new.messages) (codes "lungevati: " ++ what.now ++ codes ": " ++ words ++ codes "\n")) }
+    {
+        let front = write_all(&mut self.messages, b"lungevati: ");
+        let line = tell_failure(&mut self.messages, what, why);
+        front.and(line)
     }
 }

@@ -43,6 +43,27 @@ impl Write for Narrow {
     }
 }
 
+// Takes the first piece that is written, whole, and no other.
+#[derive(Drop)]
+struct First {
+    taken: Vec<u8>,
+    full: bool,
+}
+
+impl Write for First {
+    fn write(&mut self, buf: &[u8]) -> io::Result<usize> {
+        if self.full {
+            return Err(io::Error::from_raw_os_error(28));
+        }
+        self.full = true;
+        self.taken.write(buf)
+    }
+
+    fn flush(&mut self) -> io::Result<()> {
+        Ok(())
+    }
+}
+
 // Two words, of which the first is empty.
 struct Words;
 
@@ -116,6 +137,38 @@ fn writes_that_fail(rt: HostRuntime) -> Result<(), Fail> {
     assert!(rt; to.print(b"x").is_err());
     let told = b"lungevati: the output could not be written: No space left on device\n";
     assert_eq!(rt; to.messages.as_slice(), told.as_slice());
+    Ok(())
+}
+
+// Messages of programs that run side by side do not mix before they say what failed.
+#[test]
+fn fronts_in_one_piece(rt: HostRuntime) -> Result<(), Fail> {
+    let mut to = Outputs {
+        printout: Narrow {
+            taken: Vec::new(rt.alloc()),
+            left: 0,
+        },
+        messages: First {
+            taken: Vec::new(rt.alloc()),
+            full: false,
+        },
+    };
+    assert!(rt; to.print(b"x").is_err());
+    let front = b"lungevati: the output could not be written";
+    assert_eq!(rt; to.messages.taken.as_slice(), front.as_slice());
+    Ok(())
+}
+
+#[test]
+fn complaints(rt: HostRuntime) -> Result<(), Fail> {
+    let mut to = Outputs {
+        printout: Vec::new(rt.alloc()),
+        messages: Vec::new(rt.alloc()),
+    };
+    to.complain(b"a.capture", io::Error::from_raw_os_error(2))?;
+    let line = b"lungevati: a.capture: No such file or directory\n";
+    assert_eq!(rt; to.messages.as_slice(), line.as_slice());
+    assert!(rt; to.printout.is_empty());
     Ok(())
 }
 

@@ -39,20 +39,37 @@ pub fn base_choice(word: &[u8]) -> BaseChoice
     }
 }
 
-// The status of two runs together: the worse counts.
-#[tactic(auto, unfolding(crate::specs::Reports::number_of))]
-pub fn worse(a: Status, b: Status) -> Status
-    ensures { number_of result ≡ max (number_of a) (number_of b) }
+impl Status {
+    // The status of two runs together: the worse counts.
+    #[tactic(auto, unfolding(crate::specs::Reports::number_of))]
+    pub fn worse(self, other: Status) -> Status
+        ensures { number_of result ≡ max (number_of self) (number_of other) }
+    {
+        self.max(other)
+    }
+
+    // The line that tells it.
+    #[tactic(auto, unfolding(crate::specs::Reports::number_of))]
+    pub fn line(self) -> [u8; 9]
+        ensures { result ≡ status_line (number_of self) }
+    {
+        status_line(self as u8)
+    }
+}
+
+// The same of statuses by their numbers, 0, 1 and 2. A program may have worse ones of its own.
+pub fn worse(a: u8, b: u8) -> u8
+    ensures { result ≡ max a b }
 {
     a.max(b)
 }
 
-// The line that a program ends with, for the launcher.
-#[tactic(auto, unfolding(crate::specs::Reports::number_of, crate::specs::Reports::status_line))]
-pub fn status_line(status: Status) -> [u8; 9]
-    ensures { result ≡ status_line (number_of status) }
+// The line that a program ends with, for the launcher. Anything worse than refused is told as unread.
+#[tactic(auto, unfolding(crate::specs::Reports::status_line))]
+pub fn status_line(status: u8) -> [u8; 9]
+    ensures { result ≡ status_line status }
 {
     let mut line = *b"status 0\n";
-    line[7] += status as u8;
+    line[7] += status.min(2);
     line
 }
