@@ -10,7 +10,7 @@ ghost use Rattle.lines.specs.Writing.{Opens, Room, Puts};
 pub const LINE_BYTES: usize = 24576;
 
 // A number of 64 bits has at most 20 digits.
-const MOST_DIGITS: usize = 20;
+pub const MOST_DIGITS: usize = 20;
 
 // How many bytes the name of a file has at most, as it is shown: 4,096, each of which can become four, as `\xNN`.
 pub const NAME_BYTES: usize = 16384;
@@ -32,6 +32,7 @@ impl<'a> OpenLine<'a> {
     pub fn len(&self) -> usize
         ensures { result ≡ self.now.end }
     {
+        // all that is put goes before this place
         self.end
     }
 
